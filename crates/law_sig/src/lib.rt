@@ -1,0 +1,12 @@
+//! Signatures of algebraic types and of functions by structural recursion, and the terms over them.
+#![tactic(auto)]
+
+mod parts;
+mod seq;
+mod text;
+mod tree;
+
+pub use parts::{Con, Equation, Fun, PoolRule, Settings, SigParts, Sym};
+pub use seq::{NoMemory, Seq};
+pub use text::Text;
+pub use tree::{Body, SortId, SymId, Tree};
