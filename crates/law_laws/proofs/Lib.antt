@@ -1,0 +1,4 @@
+pub mod TreeFacts
+pub mod ListFacts
+pub mod Decide
+pub mod Coverage
