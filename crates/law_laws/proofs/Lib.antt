@@ -5,3 +5,5 @@ pub mod Coverage
 pub mod Ranks
 pub mod Orders
 pub mod Descents
+pub mod BodyFacts
+pub mod Application

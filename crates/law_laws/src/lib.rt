@@ -1,6 +1,7 @@
 //! Laws of the definitions of `law_sig`: each function has an empty body, and its contract is the law.
 #![tactic(auto)]
 
+ghost use Rattle.law_laws.specs.Application.{ComputedIsGiven, GivenIsComputed, OneValue, DepthChangesNothing, BudgetBoundsCost};
 ghost use Rattle.law_laws.specs.Coverage.{ListCovers};
 ghost use Rattle.law_laws.specs.Orders.{OrdersAreTotal, EqualIsSame, FallsWithArgument, DescentsEnd};
 
@@ -16,4 +17,13 @@ pub fn order_laws()
     ensures equal { EqualIsSame }
     ensures falls { FallsWithArgument }
     ensures ends { DescentsEnd }
+{}
+
+/// Application as a function and as a relation are the same, with one value and one cost; and a budget bounds the cost.
+pub fn application_laws()
+    ensures given { ComputedIsGiven }
+    ensures computed { GivenIsComputed }
+    ensures one { OneValue }
+    ensures depth { DepthChangesNothing }
+    ensures budget { BudgetBoundsCost }
 {}
