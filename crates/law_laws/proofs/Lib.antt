@@ -7,3 +7,6 @@ pub mod Orders
 pub mod Descents
 pub mod BodyFacts
 pub mod Application
+pub mod Sorts
+pub mod Derivation
+pub mod Agreement
