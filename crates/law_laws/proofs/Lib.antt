@@ -1,0 +1,12 @@
+pub mod TreeFacts
+pub mod ListFacts
+pub mod Decide
+pub mod Coverage
+pub mod Ranks
+pub mod Orders
+pub mod Descents
+pub mod BodyFacts
+pub mod Application
+pub mod Sorts
+pub mod Derivation
+pub mod Agreement

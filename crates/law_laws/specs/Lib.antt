@@ -1,0 +1,5 @@
+pub mod Coverage
+pub mod Orders
+pub mod Application
+pub mod Derivation
+pub mod Agreement
