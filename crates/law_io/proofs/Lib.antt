@@ -1,0 +1,2 @@
+-- Laws of the words of the contracts.
+pub mod GrowsFacts
