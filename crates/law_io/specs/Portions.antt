@@ -1,5 +1,5 @@
 -- How much a stream in memory moves in one call.
-use Rattle.std.specs.Prelude.{ℕ, ◌+◌, ◌-◌, min, List, zero, suc}
+use Rattle.std.specs.Prelude.{ℕ, ◌+◌, ◌-◌, ◌<◌, ◌≤◌, length, min, List, zero, suc}
 use Rattle.law_io.specs.Counts.{last_count}
 use Rattle.law_io.specs.Takings.{Taken}
 use Rattle.law_io.specs.Takings.Taken.{Told, Spilled}
@@ -21,3 +21,7 @@ kept_or_spilled kept (suc more) = Spilled
 abbrev pub places : ℕ → ℕ → ℕ → ℕ
 places zero capacity kept = capacity - kept
 places (suc more) capacity kept = 0
+
+-- a sink with room for so many bytes, that holds so many, has no place for any byte of the piece
+abbrev pub IsFull : ℕ → ℕ → List ℕ → Type 0
+IsFull room held piece = (room ≤ held) × (0 < length piece)

@@ -2,12 +2,14 @@
 #![tactic(auto)]
 
 mod adapters;
-mod copying;
+mod giving;
+mod memory;
 mod pushing;
 mod streams;
 mod sure;
 
 pub use adapters::{StdSink, StdSource};
+pub use memory::{MemSink, MemSource};
 pub use pushing::push_all;
 pub use streams::{Failed, Sink, Source};
 pub use sure::{SureSink, SureSource};

@@ -2,7 +2,7 @@
 ghost use Rattle.law_io.specs.Takings.Taken.{Told};
 ghost use Rattle.std.specs.Prelude.{◌≡◌, ℕ, ◌+◌, ◌-◌, ◌<◌, ◌≤◌, ◌++◌, [], Some, Ok, drop, take, length, min, IfOk, vec_len, vec_capacity};
 
-use crate::copying::copy_portion;
+use crate::giving::give;
 use crate::streams::{Failed, Sink, Source};
 use std::alloc::{AllocError, Global};
 
@@ -55,7 +55,7 @@ impl Source for SureSource {
         ensures count { result ≡ Ok (portion self.old.step (length buf.old) (vec_len self.old.bytes - self.old.at)) }
         ensures kept { (self.new.bytes ≡ self.old.bytes) × (self.new.step ≡ self.old.step) }
     {
-        let count = copy_portion(&self.bytes[self.at..], buf, self.step);
+        let count = give(&self.bytes, self.at, self.step, buf);
         self.at += count;
         Ok(count)
     }
