@@ -1,10 +1,8 @@
--- Laws of what a sink takes and of counts of faults.
-use Rattle.std.proofs.Common.{◌≡◌, ℕ, ◌+◌, ◌-◌, ◌≤◌, List, [], ◌++◌, length, take, drop, ap, ◌∙◌, sym, subst, append_assoc, arith, min, rules}
-use Rattle.std.specs.Prelude.{⊤}
+-- What follows from the words of a sink's contract.
+use Rattle.std.proofs.Common.{ℕ, ◌+◌, ◌-◌, List, [], ◌++◌, length, take, drop, sym, subst, arith}
 use Rattle.std.proofs.lemmas.Grind.{common_steps}
-use Rattle.std.proofs.Math.Seq.{take-add}
+use Rattle.std.proofs.Math.Seq.{take-add, take-append-add}
 use Rattle.std.proofs.lemmas.List.{take_rest}
-use Rattle.law_io.specs.Counts.{Rose}
 use Rattle.law_io.specs.Takings.{Taken, Grows, Stays, GrewByPrefix}
 use Rattle.law_io.specs.Takings.Taken.{Told, Silent, Spilled}
 
@@ -14,7 +12,7 @@ Grows-none (Told xs) = grind (arith, common_steps)
 Grows-none Silent = tt
 Grows-none Spilled = tt
 
--- what stays grows by nothing
+-- what stays has grown by nothing
 pub Stays-Grows : (old new : Taken) → Stays old new → Grows old new []
 Stays-Grows (Told xs) (Told ys) h = grind (arith, common_steps, h)
 Stays-Grows (Told xs) Silent h = absurd h
@@ -47,3 +45,17 @@ Grows-more a b c bs at n h k =
     let front : List ℕ → Type 0 = λ xs. Grows a c xs in
     let rest : List ℕ → Type 0 = λ xs. Grows b c (take n xs) in
     subst front (sym (take-add at n bs)) (Grows-trans a b c _ _ h (subst rest (take_rest bs at) k))
+
+-- nothing is a prefix
+pub GrewByPrefix-none : (old : Taken) (bs : List ℕ) → GrewByPrefix old old bs
+GrewByPrefix-none old bs = record { count = 0; within = omega arith; grew = Grows-none old }
+
+-- a whole text, and then a prefix of the next one
+pub Grows-GrewByPrefix : (a b c : Taken) (xs ys : List ℕ) → Grows a b xs → GrewByPrefix b c ys → GrewByPrefix a c (xs ++ ys)
+Grows-GrewByPrefix a b c xs ys h k =
+    let front : List ℕ → Type 0 = λ zs. Grows a c zs in
+    record {
+      count = length xs + k.count;
+      within = let w = k.within in grind (arith, common_steps);
+      grew = subst front (sym (take-append-add xs ys k.count)) (Grows-trans a b c _ _ h k.grew);
+    }

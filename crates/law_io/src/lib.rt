@@ -13,3 +13,6 @@ pub use memory::{MemSink, MemSource};
 pub use pushing::push_all;
 pub use streams::{Failed, Sink, Source};
 pub use sure::{SureSink, SureSource};
+
+#[cfg(test)]
+mod tests;

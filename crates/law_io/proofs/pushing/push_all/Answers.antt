@@ -1,5 +1,5 @@
 -- Each turn takes the first bytes of those that are left.
-use Rattle.std.proofs.Common.{arith, rules}
+use Rattle.std.proofs.Common.{arith}
 use Rattle.std.proofs.lemmas.Grind.{common_steps}
 use Rattle.law_io.proofs.GrowsFacts.{Grows-more}
 use Rattle.law_io.proofs.pushing.push_all.Goals as goal
