@@ -1,6 +1,6 @@
 // A source and a sink in memory whose calls fail where they are told to.
 ghost use Rattle.law_io.specs.Takings.Taken.{Told};
-ghost use Rattle.std.specs.Prelude.{◌≡◌, ℕ, ◌+◌, ◌-◌, ◌<◌, ◌≤◌, ◌++◌, ◌⊎◌, [], Some, drop, take, length, IfOk, IsErr, IsTrue, ◌↔◌, Contains, vec_len, vec_capacity};
+ghost use Rattle.std.specs.Prelude.{◌≡◌, ℕ, ◌+◌, ◌-◌, ◌<◌, ◌≤◌, ◌++◌, ◌⊎◌, [], Some, drop, take, length, IfOk, OnErr, IsErr, IsTrue, ◌↔◌, Contains, vec_len, vec_capacity};
 
 use crate::giving::give;
 use crate::streams::{Failed, Sink, Source};
@@ -82,6 +82,7 @@ impl Source for MemSource {
             n ≡ portion self.old.step (length buf.old) (vec_len self.old.bytes - self.old.at)) }
 
         ensures call { self.new.calls ≡ next_count self.old.calls }
+        ensures counted { OnErr result (self.new.count ≡ next_count self.old.count) }
         ensures kept { (self.new.bytes ≡ self.old.bytes) × (self.new.step ≡ self.old.step)
             × (self.new.fail_calls ≡ self.old.fail_calls) }
     {
@@ -174,6 +175,7 @@ impl Sink for MemSink {
             n ≡ portion self.old.step (length piece.now) (vec_capacity self.old.bytes - vec_len self.old.bytes)) }
 
         ensures call { self.new.calls ≡ next_count self.old.calls }
+        ensures counted { OnErr result (self.new.count ≡ next_count self.old.count) }
         ensures room { vec_capacity self.old.bytes ≤ vec_capacity self.new.bytes }
         ensures kept { (self.new.step ≡ self.old.step) × (self.new.fail_calls ≡ self.old.fail_calls) }
     {
