@@ -1,13 +1,12 @@
-// A library with one function.
+//! The text of a signature, both ways: raw lines and terms, their one spelling, and the reader of it.
 #![tactic(auto)]
 
-ghost use Rattle.std.specs.Prelude.{◌≡◌};
-ghost use Rattle.law_read.specs.Echo.{echo_of};
+mod copy;
+mod raw;
+mod shape;
+mod sig;
+mod write;
 
-// The `ensures` clause is the contract: what `echo` returns is `echo_of` of its argument, a definition
-// in `specs/Echo.antt`, which a caller's clause can cite too.
-pub fn echo(x: usize) -> usize
-    ensures { result ≡ echo_of x }
-{
-    x
-}
+pub use raw::{RawHead, RawLine, RawTerm};
+pub use sig::RawSig;
+pub use write::{write_sig, write_term};
