@@ -24,12 +24,14 @@ impl RawTerm {
     pub fn copy(&self, alloc: Global) -> Result<RawTerm, NoMemory>
         ensures { IfOk result (λ term. term ≡ self.now) }
     {
-        let head = self.head.copy(alloc)?;
         let mut args = Seq::new(alloc);
         for arg in self.args.as_slice() {
             args.push(arg.copy(alloc)?)?;
         }
-        Ok(RawTerm { head, args })
+        Ok(RawTerm {
+            head: self.head.copy(alloc)?,
+            args,
+        })
     }
 }
 

@@ -39,7 +39,8 @@ impl RawSig {
 
     /// The lines, in order.
     pub fn lines(&self) -> &[RawLine]
-        ensures { result.now ≡ self.now }
+        ensures same { result.now ≡ self.now }
+        ensures signature { IsRawSig result.now }
     {
         self.lines.as_slice()
     }

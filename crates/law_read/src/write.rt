@@ -1,6 +1,6 @@
 ghost use Rattle.std.specs.Prelude.{◌≡◌, ◌++◌, ◌∷◌, [], map, decimal, IfOk, OnOk};
 ghost use Rattle.law_read.specs.Lines.{IsDeclaration};
-ghost use Rattle.law_read.specs.declared.raw.RawLine.TheVariants.{PoolsSeed};
+ghost use Rattle.law_read.specs.declared.raw.RawLine.TheVariants.{Background, PoolsSeed};
 ghost use Rattle.law_read.specs.Spelling.{head_spelling, arg_spelling, term_spelling, term_words, line_spelling, sig_spelling, spaced};
 
 use crate::raw::{RawHead, RawLine, RawTerm};
@@ -81,6 +81,15 @@ fn put_words(out: &mut Text, term: &RawTerm) -> Result<(), NoMemory>
     put_term(out, term)
 }
 
+fn put_background(out: &mut Text, left: &RawTerm, right: &RawTerm) -> Result<(), NoMemory>
+    ensures { OnOk result (out.new ≡ out.old ++ line_spelling (Background left.now right.now)) }
+{
+    out.push_slice(b"background")?;
+    put_words(out, left)?;
+    put_word(out, b"=")?;
+    put_words(out, right)
+}
+
 /// Each argument behind a space.
 fn put_args(out: &mut Text, terms: &[RawTerm]) -> Result<(), NoMemory>
     ensures { OnOk result (out.new ≡ out.old ++ spaced (map arg_spelling terms.now)) }
@@ -145,12 +154,7 @@ fn put_line(out: &mut Text, line: &RawLine) -> Result<(), NoMemory>
             out.push_slice(b" = ")?;
             put_term(out, body)
         }
-        RawLine::Background { left, right } => {
-            out.push_slice(b"background")?;
-            put_words(out, left)?;
-            put_word(out, b"=")?;
-            put_words(out, right)
-        }
+        RawLine::Background { left, right } => put_background(out, left, right),
         RawLine::Pool => out.push_slice(b"pool"),
         RawLine::Values { sort, values } => {
             out.push_slice(b"values ")?;
