@@ -10,3 +10,5 @@ pub mod Application
 pub mod Sorts
 pub mod Derivation
 pub mod Agreement
+pub mod Radix
+pub mod Renaming

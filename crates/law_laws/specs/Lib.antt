@@ -3,3 +3,4 @@ pub mod Orders
 pub mod Application
 pub mod Derivation
 pub mod Agreement
+pub mod Renaming

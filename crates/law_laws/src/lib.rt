@@ -6,6 +6,7 @@ ghost use Rattle.law_laws.specs.Application.{ComputedIsGiven, GivenIsComputed, O
 ghost use Rattle.law_laws.specs.Coverage.{ListCovers};
 ghost use Rattle.law_laws.specs.Derivation.{DerivationKeepsSorts, InstancesAreDerivable, DerivableEquationsAddNothing};
 ghost use Rattle.law_laws.specs.Orders.{OrdersAreTotal, EqualIsSame, FallsWithArgument, DescentsEnd};
+ghost use Rattle.law_laws.specs.Renaming.{TestsAreRenamed, FlatTestsSeeSchemas};
 
 /// The law list covers, where every term of the universe has a value at every test and a least one.
 pub fn coverage_laws()
@@ -43,4 +44,11 @@ pub fn agreement_laws()
     ensures shared { AgreementIsShared }
     ensures least { LeastTellsValues }
     ensures one { OneLawList }
+{}
+
+/// The tests are closed under renaming the variables of each sort, and a flat test gives a term and its schema the same
+/// value.
+pub fn test_laws()
+    ensures renamed { TestsAreRenamed }
+    ensures flat { FlatTestsSeeSchemas }
 {}
