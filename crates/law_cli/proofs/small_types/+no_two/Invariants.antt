@@ -1,0 +1,8 @@
+use Rattle.std.proofs.Common.{◌≡◌, ◌+◌, ◌++◌, drop, length, List, ℕ}
+use Rattle.std.specs.List.{list_all, list_any, position_from}
+use Rattle.law_cli.specs.SmallTypes.{same_name, number_of, is_among, con_names, behind_cons, case_term}
+use Rattle.law_sig.specs.Names.{is_name}
+use Rattle.law_cli.proofs.small_types.+no_two.Given as goal
+
+abbrev pub decreases-no_two : goal.decreases-no_two
+decreases-no_two l = length l.names.now
