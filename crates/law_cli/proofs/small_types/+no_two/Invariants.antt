@@ -1,7 +1,4 @@
-use Rattle.std.proofs.Common.{◌≡◌, ◌+◌, ◌++◌, drop, length, List, ℕ}
-use Rattle.std.specs.List.{list_all, list_any, position_from}
-use Rattle.law_cli.specs.SmallTypes.{same_name, number_of, is_among, con_names, behind_cons, case_term}
-use Rattle.law_sig.specs.Names.{is_name}
+use Rattle.std.proofs.Common.{length}
 use Rattle.law_cli.proofs.small_types.+no_two.Given as goal
 
 abbrev pub decreases-no_two : goal.decreases-no_two

@@ -1,6 +1,5 @@
-use Rattle.std.proofs.Common.{◌≡◌, ◌+◌, ◌++◌, drop, length, List, ℕ}
-use Rattle.std.specs.List.{list_all, list_any, position_from}
-use Rattle.law_cli.specs.SmallTypes.{same_name, number_of, is_among, con_names, behind_cons, case_term}
+use Rattle.std.proofs.Common.{◌≡◌, drop}
+use Rattle.std.specs.List.{list_all}
 use Rattle.law_sig.specs.Names.{is_name}
 use Rattle.law_cli.proofs.small_types.are_names.Given as goal
 

@@ -1,4 +1,3 @@
-use Rattle.std.proofs.Common.{◌≡◌}
 use Rattle.law_cli.proofs.SmallTypesNames.{unlike}
 use Rattle.law_cli.proofs.small_types.same_name.Goals as goal
 
