@@ -1,1 +1,4 @@
 pub mod Small
+pub mod SmallReadPlain
+pub mod SmallReadWords
+pub mod SmallReadOrder

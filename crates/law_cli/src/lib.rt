@@ -1,2 +1,4 @@
 //! The top call: all that the program does.
 #![tactic(auto)]
+
+mod small_read;
