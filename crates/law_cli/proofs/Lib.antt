@@ -1,1 +1,4 @@
+pub mod SmallReadCuts
+pub mod SmallReadOrders
+pub mod SmallReadWords
 pub mod SmallReadLines

@@ -87,10 +87,13 @@ abbrev pub fun_of : List ℕ → List (List ℕ) → List ℕ → Option RawLine
 fun_of name args result = some_line (is_name name && (list_all is_name args && (nat_le (length args) 8 && is_name result))) (r.FunLine name args result)
 
 -- the last word is the result's sort, and the one before it an arrow
+abbrev pub fun_by : List ℕ → List (List ℕ) → Option RawLine
+fun_by name words =
+    if nat_le 2 (length words) then fun_of name (take (length words - 2) words) (slice_index_or words (length words - 1) []) else None
+
 abbrev pub fun_line : List (List ℕ) → Option RawLine
 fun_line [] = None
-fun_line (name ∷ words) =
-    if nat_le 2 (length words) then fun_of name (take (length words - 2) words) (slice_index_or words (length words - 1) []) else None
+fun_line (name ∷ words) = fun_by name words
 
 abbrev pub body_line : List (List ℕ) → Option RawLine
 body_line (equals ∷ word ∷ []) = option_map r.BodyLine (atom_of word)

@@ -3,12 +3,12 @@ ghost use Rattle.std.specs.List.{list_all};
 ghost use Rattle.std.specs.Str.{bytes_eq};
 ghost use Rattle.law_text.specs.Words.{is_name, number_below};
 ghost use Rattle.law_read.specs.declared.raw.RawLine.{RawLine};
-ghost use Rattle.law_read.specs.declared.raw.RawLine.TheVariants.{Explore, SortLine};
+ghost use Rattle.law_read.specs.declared.raw.RawLine.TheVariants.{BodyLine, CaseLine, Explore, SortLine};
 ghost use Rattle.law_read.specs.Spelling.{sig_spelling};
 ghost use Rattle.law_read.specs.Signature.{IsRawSig};
 ghost use Rattle.law_cli.specs.SmallReadPlain.{ArePlain};
 ghost use Rattle.law_cli.specs.SmallReadOrder.{follows, in_order, may_end, may_stand, same_shape, shape_number, shape_of_kind};
-ghost use Rattle.law_cli.specs.SmallReadWords.{atom_of, body_line, case_line, con_line, cut, fun_line, fun_of, kind_at, kind_of, line_at, lines_of, name_term, named, number_in, param_term, rest_of, some_line, table_of, values_line, values_of};
+ghost use Rattle.law_cli.specs.SmallReadWords.{atom_of, body_line, case_line, con_line, cut, fun_by, fun_line, fun_of, kind_at, kind_of, line_at, lines_of, name_term, named, number_in, param_term, rest_of, some_line, table_of, values_line, values_of};
 
 use law_read::{RawHead, RawLine, RawSig, RawTerm, write_sig};
 use law_sig::{NoMemory, Seq, Text};
@@ -333,7 +333,16 @@ fn read_fun(alloc: Global, words: &[Text]) -> Result<Option<RawLine>, NoMemory>
     ensures { IfOk result (λ found. found ≡ fun_line words.now) }
 {
     match words {
-        [name, args @ .., _, result] => fun_of(alloc, name, args, result),
+        [name, rest @ ..] => read_args(alloc, name, rest),
+        [] => Ok(None),
+    }
+}
+
+fn read_args(alloc: Global, name: &Text, words: &[Text]) -> Result<Option<RawLine>, NoMemory>
+    ensures { IfOk result (λ found. found ≡ fun_by name.now words.now) }
+{
+    match words {
+        [args @ .., _, sort] => fun_of(alloc, name, args, sort),
         _ => Ok(None),
     }
 }
@@ -356,8 +365,17 @@ fn read_body(alloc: Global, words: &[Text]) -> Result<Option<RawLine>, NoMemory>
     ensures { IfOk result (λ found. found ≡ body_line words.now) }
 {
     match words {
-        [_, word] => Ok(read_atom(alloc, word.as_slice())?.map(|body| RawLine::BodyLine(body))),
+        [_, word] => body_of(alloc, word.as_slice()),
         _ => Ok(None),
+    }
+}
+
+fn body_of(alloc: Global, word: &[u8]) -> Result<Option<RawLine>, NoMemory>
+    ensures { IfOk result (λ found. found ≡ option_map BodyLine (atom_of word.now)) }
+{
+    match read_atom(alloc, word)? {
+        Some(body) => Ok(Some(RawLine::BodyLine(body))),
+        None => Ok(None),
     }
 }
 
@@ -365,14 +383,20 @@ fn read_case(alloc: Global, words: &[Text]) -> Result<Option<RawLine>, NoMemory>
     ensures { IfOk result (λ found. found ≡ case_line words.now) }
 {
     match words {
-        [con, _, word] if is_name(con.as_slice()) => match read_atom(alloc, word.as_slice())? {
-            Some(body) => Ok(Some(RawLine::CaseLine {
-                con: con.copy(alloc)?,
-                body,
-            })),
-            None => Ok(None),
-        },
+        [con, _, word] if is_name(con.as_slice()) => case_of(alloc, con, word.as_slice()),
         _ => Ok(None),
+    }
+}
+
+fn case_of(alloc: Global, con: &Text, word: &[u8]) -> Result<Option<RawLine>, NoMemory>
+    ensures { IfOk result (λ found. found ≡ option_map (CaseLine con.now) (atom_of word.now)) }
+{
+    match read_atom(alloc, word)? {
+        Some(body) => Ok(Some(RawLine::CaseLine {
+            con: con.copy(alloc)?,
+            body,
+        })),
+        None => Ok(None),
     }
 }
 
