@@ -6,7 +6,7 @@ use Rattle.std.proofs.lemmas.List.{append-nil}
 use Rattle.law_text.proofs.FirstPieces.{both}
 use Rattle.law_read.specs.Grammar.{Grammar, Spells, some}
 use Rattle.law_read.specs.Grammar.Grammar.{never, empty, one, series, either, many}
-use Rattle.law_read.specs.Order.{order, functions, declarations, given_pools, lines_then}
+use Rattle.law_read.specs.Order.{order, version, functions, declarations, given_pools, lines_then}
 use Rattle.law_read.specs.declared.shape.Shape.{Shape}
 use Rattle.law_read.specs.declared.shape.Shape.TheVariants as s
 use Rattle.law_cli.specs.SmallReadOrder.{shape_number, same_shape, follows, walks}
@@ -166,7 +166,7 @@ numbered s.Pool = λ h. refl
 numbered s.Values = λ h. refl
 numbered s.End = λ h. refl
 
-is_shape : (b p : Shape) → is_plain_shape p ≡ true → same_shape b p ≡ true → b ≡ p
+pub is_shape : (b p : Shape) → is_plain_shape p ≡ true → same_shape b p ≡ true → b ≡ p
 unfolding IsNumbered
 is_shape b p plain h =
     let e = eqb-true (shape_number b) (shape_number p) h in
@@ -381,10 +381,14 @@ first_version =
     turns_series (one s.Head) (behind s.Head) Starts (Walks s.Head) IsOver
     (turns_one s.Head Starts (Walks s.Head) (λ back w. record { more = back; is = refl; walks = w })) turns_settings
 
+-- behind the first line of a later version
+abbrev later : Shape → Shape → Grammar Shape
+later con fun = version (s.Size ∷ s.Budget ∷ s.Pairs ∷ []) s.SortLine2 con fun
+
 starts : Turns order Starts IsOver
 starts front back (inl d) = first_version front back d
-starts front back (inr (inl d)) = turns_never s.Head2 _ Starts refl front back d
-starts front back (inr (inr d)) = turns_never s.Head3 _ Starts refl front back d
+starts front back (inr (inl d)) = turns_never s.Head2 (later s.ConLine s.FunLine) Starts refl front back d
+starts front back (inr (inr d)) = turns_never s.Head3 (later s.ConLine3 s.FunLine3) Starts refl front back d
 
 pub started : (row : Row) → Spells order row → list_all is_plain_shape row ≡ true → Starts row
 unfolding IsOver
