@@ -1,26 +1,25 @@
 -- The lines that are read from a table of words, against the lines that a signature has.
-use Rattle.std.proofs.Common.{◌≡◌, ◌≢◌, ℕ, ◌<◌, ◌≤◌, ◌^◌, Bool, true, false, ◌&&◌, nat_lt, nat_le, List, [], ◌∷◌, ◌++◌, map, take, get_or, length, cond, ◌-◌, Option, Some, None, MatchOption, Result, Ok, Err, IfOk, refl, ap, sym, ◌∙◌, subst, arith, decimal, codes}
+use Rattle.std.proofs.Common.{◌≡◌, ◌≢◌, ℕ, ◌<◌, ◌^◌, Bool, true, false, ◌&&◌, nat_lt, nat_le, List, [], ◌∷◌, ◌++◌, map, take, get_or, length, cond, ◌-◌, Option, Some, None, MatchOption, Result, Ok, Err, IfOk, refl, ap, sym, ◌∙◌, subst, arith, codes}
 use Rattle.std.specs.Option.{option_map}
 use Rattle.std.specs.List.{list_all, AllByRecursion}
 use Rattle.std.proofs.lemmas.Bool.Decides.{nat_tests}
-use Rattle.law_text.specs.Words.{is_name, number_below}
+use Rattle.law_text.specs.Words.{is_name}
 use Rattle.law_text.proofs.FirstPieces.{both}
 use Rattle.law_read.specs.declared.raw.RawTerm.{RawTerm}
 use Rattle.law_read.specs.declared.raw.RawLine.{RawLine}
 use Rattle.law_read.specs.declared.raw.RawLine.TheVariants as r
-use Rattle.law_read.specs.declared.shape.Shape.{Shape}
 use Rattle.law_read.specs.declared.shape.Shape.TheVariants as s
-use Rattle.law_read.specs.Terms.{IsTerm, the_bounds, body}
+use Rattle.law_read.specs.Terms.{the_bounds}
 use Rattle.law_read.specs.Lines.{IsLine, AreSorts, AreValues}
 use Rattle.law_read.specs.Order.{order, shape_of}
 use Rattle.law_read.specs.Grammar.{Spells}
 use Rattle.law_read.specs.Signature.{IsRawSig}
-use Rattle.law_read.specs.Spelling.{arg_spelling, term_words, joined, text_of, line_words, line_spelling, sig_spelling}
+use Rattle.law_read.specs.Spelling.{arg_spelling, line_words, line_spelling, sig_spelling}
 use Rattle.law_cli.specs.declared.small_read.Kind.{Kind}
 use Rattle.law_cli.specs.declared.small_read.Kind.TheVariants as k
 use Rattle.law_cli.specs.SmallReadPlain.{IsAtom, IsPlain, ArePlain}
-use Rattle.law_cli.specs.SmallReadOrder.{shape_of_kind, same_shape, follows, walks, may_end, in_order}
-use Rattle.law_cli.specs.SmallReadWords.{cut, ended, table_of, kind_at, rest_of, line_by, line_at, with_first, lines_of, some_line, number_in, named, con_line, fun_of, fun_by, fun_line, body_line, case_line, values_of, values_line, atom_of, name_term}
+use Rattle.law_cli.specs.SmallReadOrder.{shape_of_kind, same_shape, follows, walks, in_order}
+use Rattle.law_cli.specs.SmallReadWords.{cut, table_of, kind_at, rest_of, line_by, line_at, with_first, lines_of, some_line, number_in, named, con_line, fun_of, body_line, case_line, values_of, atom_of, name_term}
 use Rattle.law_cli.proofs.SmallReadCuts.{IsAbove, AreWords, cut_joined, joined_above, lines_back}
 use Rattle.law_cli.proofs.SmallReadOrders.{is_plain_shape, is_shape, Starts, ordered, started}
 use Rattle.law_cli.proofs.SmallReadWords.{name_above, decimal_above, names_above, number_back, number_small, IsWord, body_word, atom_sound, values_back, values_sound, fun_back}
@@ -57,10 +56,10 @@ of_fun : (name : List ℕ) (args : List (List ℕ)) (result : List ℕ) (l : Raw
 of_fun name args result l e =
     of_test (Fits k.Fun) (is_name name && (list_all is_name args && (nat_le (length args) 8 && is_name result))) (r.FunLine name args result) l
     (λ h.
-      let a = both (is_name name) (list_all is_name args && (nat_le (length args) 8 && is_name result)) h in
-      let b = both (list_all is_name args) (nat_le (length args) 8 && is_name result) a.1 in
-      let c = both (nat_le (length args) 8) (is_name result) b.1 in
-      (refl, (a.0, record { names = b.0; few = c.0 }, c.1)))
+    let a = both (is_name name) (list_all is_name args && (nat_le (length args) 8 && is_name result)) h in
+    let b = both (list_all is_name args) (nat_le (length args) 8 && is_name result) a.1 in
+    let c = both (nat_le (length args) 8) (is_name result) b.1 in
+    (refl, (a.0, record { names = b.0; few = c.0 }, c.1)))
     e
 
 of_fun_by : (t : Bool) (name : List ℕ) (args : List (List ℕ)) (result : List ℕ) (l : RawLine) → cond t (fun_of name args result) None ≡ Some l → Fits k.Fun l
@@ -79,9 +78,9 @@ of_values : (sort : List ℕ) (ws : List (List ℕ)) (l : RawLine) → values_of
 of_values sort ws l e =
     of_test (Fits k.Values) (is_name sort && (list_all is_name ws && nat_lt 0 (length ws))) (r.Values sort (map name_term ws)) l
     (λ h.
-      let a = both (is_name sort) (list_all is_name ws && nat_lt 0 (length ws)) h in
-      let b = both (list_all is_name ws) (nat_lt 0 (length ws)) a.1 in
-      (refl, (a.0, some_names ws b.1, values_sound ws b.0)))
+    let a = both (is_name sort) (list_all is_name ws && nat_lt 0 (length ws)) h in
+    let b = both (list_all is_name ws) (nat_lt 0 (length ws)) a.1 in
+    (refl, (a.0, some_names ws b.1, values_sound ws b.0)))
     e
 
 rest_fits : (kind : Kind) (ws : List (List ℕ)) (l : RawLine) → rest_of kind ws ≡ Some l → Fits kind l
@@ -158,7 +157,7 @@ found_walks kind (ws ∷ table) [] f h = absurd f
 found_walks kind (ws ∷ table) (l ∷ ls) f h =
     let w = f.0 in
     let d = both (follows (shape_of_kind kind) (shape_of_kind w.kind)) (in_order (Some w.kind) (map kind_at table))
-        (sym (ap (λ o. in_order (Some kind) (o ∷ map kind_at table)) w.at) ∙ h) in
+    (sym (ap (λ o. in_order (Some kind) (o ∷ map kind_at table)) w.at) ∙ h) in
     ap (λ x. follows (shape_of_kind kind) x && walks x (map shape_of ls)) w.fits.0
     ∙ ap (λ b. b && walks (shape_of_kind w.kind) (map shape_of ls)) d.0 ∙ found_walks w.kind table ls f.1 d.1
 
@@ -172,7 +171,7 @@ found_order (ws ∷ table) [] f h = absurd f
 found_order (ws ∷ table) (l ∷ ls) f h =
     let w = f.0 in
     let d = both (same_shape (shape_of_kind w.kind) s.Head) (in_order (Some w.kind) (map kind_at table))
-        (sym (ap (λ o. in_order None (o ∷ map kind_at table)) w.at) ∙ h) in
+    (sym (ap (λ o. in_order None (o ∷ map kind_at table)) w.at) ∙ h) in
     let first = head_first w.kind d.0 in
     subst (λ x. Spells order (x ∷ map shape_of ls)) (sym (w.fits.0 ∙ first))
     (ordered (map shape_of ls) (sym (ap (λ x. walks x (map shape_of ls)) first) ∙ found_walks w.kind table ls f.1 d.1))
@@ -209,11 +208,11 @@ reread_fun name result args h a i = record {
   at = refl;
   shape = refl;
   line =
-    fun_back name (codes "->") result args
-    ∙ ap (λ b. some_line (b && (list_all is_name args && (nat_le (length args) 8 && is_name result))) (r.FunLine name args result)) h
-    ∙ ap (λ b. some_line (b && (nat_le (length args) 8 && is_name result)) (r.FunLine name args result)) a.names
-    ∙ ap (λ b. some_line (b && is_name result) (r.FunLine name args result)) a.few
-    ∙ ap (λ b. some_line b (r.FunLine name args result)) i;
+      fun_back name (codes "->") result args
+      ∙ ap (λ b. some_line (b && (list_all is_name args && (nat_le (length args) 8 && is_name result))) (r.FunLine name args result)) h
+      ∙ ap (λ b. some_line (b && (nat_le (length args) 8 && is_name result)) (r.FunLine name args result)) a.names
+      ∙ ap (λ b. some_line (b && is_name result) (r.FunLine name args result)) a.few
+      ∙ ap (λ b. some_line b (r.FunLine name args result)) i;
   words = (refl, (name_above name h, all_append (IsAbove 32) args (codes "->" ∷ result ∷ []) (names_above args a.names) (refl, (name_above result i, tt))));
 }
 
@@ -232,8 +231,8 @@ reread_case con t h w = record {
   at = refl;
   shape = refl;
   line =
-    ap (λ ws. case_line (con ∷ codes "=" ∷ ws)) w.words
-    ∙ ap (λ b. cond b (option_map (r.CaseLine con) (atom_of w.word)) None) h ∙ ap (option_map (r.CaseLine con)) w.back;
+      ap (λ ws. case_line (con ∷ codes "=" ∷ ws)) w.words
+      ∙ ap (λ b. cond b (option_map (r.CaseLine con) (atom_of w.word)) None) h ∙ ap (option_map (r.CaseLine con)) w.back;
   words = subst (λ ws. AreWords (codes "case" ∷ con ∷ codes "=" ∷ ws)) (sym w.words) (refl, (name_above con h, (refl, (w.above, tt))));
 }
 
@@ -250,10 +249,10 @@ reread_values sort ts a h some i =
       at = refl;
       shape = refl;
       line =
-        ap (λ b. some_line (b && (list_all is_name ws && nat_lt 0 (length ws))) (r.Values sort (map name_term ws))) h
-        ∙ ap (λ b. some_line (b && nat_lt 0 (length ws)) (r.Values sort (map name_term ws))) d.0
-        ∙ ap (λ b. some_line b (r.Values sort (map name_term ws))) (some_words ts some)
-        ∙ ap (λ xs. Some (r.Values sort xs)) d.1;
+          ap (λ b. some_line (b && (list_all is_name ws && nat_lt 0 (length ws))) (r.Values sort (map name_term ws))) h
+          ∙ ap (λ b. some_line (b && nat_lt 0 (length ws)) (r.Values sort (map name_term ws))) d.0
+          ∙ ap (λ b. some_line b (r.Values sort (map name_term ws))) (some_words ts some)
+          ∙ ap (λ xs. Some (r.Values sort xs)) d.1;
       words = (refl, (name_above sort h, names_above ws d.0));
     }
 
@@ -331,7 +330,7 @@ walks_back : (kind : Kind) (lines : List RawLine) → AllByRecursion IsReread li
 walks_back kind [] h w = w
 walks_back kind (l ∷ lines) h w =
     let d = both (follows (shape_of_kind kind) (shape_of_kind h.0.kind)) (walks (shape_of_kind h.0.kind) (map shape_of lines))
-        (sym (ap (λ x. follows (shape_of_kind kind) x && walks x (map shape_of lines)) h.0.shape) ∙ w) in
+    (sym (ap (λ x. follows (shape_of_kind kind) x && walks x (map shape_of lines)) h.0.shape) ∙ w) in
     ap (λ o. in_order (Some kind) (o ∷ map kind_at (map line_words lines))) h.0.at
     ∙ ap (λ b. b && in_order (Some h.0.kind) (map kind_at (map line_words lines))) d.0 ∙ walks_back h.0.kind lines h.1 d.1
 

@@ -1,5 +1,5 @@
 -- The words of plain lines: what they are made of, and what is read from them.
-use Rattle.std.proofs.Common.{◌≡◌, ◌≢◌, ℕ, suc, ◌+◌, ◌-◌, ◌<◌, ◌≤◌, ◌^◌, Bool, true, false, ◌&&◌, nat_lt, nat_le, List, [], ◌∷◌, ◌++◌, map, take, drop, length, cond, Option, Some, None, refl, ap, sym, ◌∙◌, subst, arith, get_or, decimal, codes, sum}
+use Rattle.std.proofs.Common.{◌≡◌, ℕ, ◌+◌, ◌-◌, ◌<◌, ◌≤◌, ◌^◌, Bool, true, false, ◌&&◌, nat_lt, nat_le, List, [], ◌∷◌, ◌++◌, map, take, drop, length, cond, Option, Some, None, refl, ap, sym, ◌∙◌, subst, arith, get_or, decimal, sum}
 use Rattle.std.specs.Option.{option_map}
 use Rattle.std.specs.List.{list_all, AllByRecursion}
 use Rattle.std.proofs.lemmas.List.{length-append, get_or-append-add, get_or_default}
@@ -14,7 +14,6 @@ use Rattle.law_read.specs.declared.raw.RawTerm.{RawTerm}
 use Rattle.law_read.specs.declared.raw.RawTerm.TheFolds.{fold-roll-RawTerm}
 use Rattle.law_read.specs.declared.raw.RawTerm.TheOpen.{RawTerm-F}
 use Rattle.law_read.specs.declared.raw.RawTerm.TheViews.{out-RawTerm, roll-RawTerm, out-roll-RawTerm, roll-out-RawTerm}
-use Rattle.law_read.specs.declared.raw.RawLine.{RawLine}
 use Rattle.law_read.specs.declared.raw.RawLine.TheVariants as r
 use Rattle.law_read.specs.Terms.{Place, IsTerm, the_bounds, node_fits, head_fits, largest, body, value}
 use Rattle.law_read.specs.Lines.{AreValues}

@@ -1,5 +1,5 @@
 -- The order of plain lines: which may stand behind which.
-use Rattle.std.specs.Prelude.{ℕ, Bool, true, false, ◌==◌, ◌&&◌, ◌||◌, List, [], ◌∷◌, Option, Some, None}
+use Rattle.std.specs.Prelude.{ℕ, Bool, false, ◌==◌, ◌&&◌, ◌||◌, List, [], ◌∷◌, Option, Some, None}
 use Rattle.law_read.specs.declared.shape.Shape.{Shape}
 use Rattle.law_read.specs.declared.shape.Shape.TheVariants as s
 use Rattle.law_cli.specs.declared.small_read.Kind.{Kind}

@@ -37,7 +37,7 @@ pub enum Kind {
     End,
 }
 
-/// The lines that the bytes spell; `None` exactly where they spell no signature of plain lines.
+/// A signature that the bytes spell; `None` only where they spell none of plain lines.
 pub fn read_small(alloc: Global, bytes: &[u8]) -> Result<Option<RawSig>, NoMemory>
     ensures { IfOk result (λ found. MatchOption found ((lines : List RawLine) → IsRawSig lines → ArePlain lines → bytes.now ≡ sig_spelling lines → ⊥) (λ sig. bytes.now ≡ sig_spelling sig)) }
 {
@@ -178,7 +178,10 @@ impl Kind {
             Kind::Pairs => after.is(Kind::Pools),
             Kind::Pools => after.is(Kind::Sort),
             Kind::Sort => after.is(Kind::Con),
-            Kind::Con => after.is(Kind::Con) || after.is(Kind::Sort) || after.is(Kind::Fun) || after.is(Kind::Explore),
+            Kind::Con => after.is(Kind::Con)
+                || after.is(Kind::Sort)
+                || after.is(Kind::Fun)
+                || after.is(Kind::Explore),
             Kind::Fun => after.is(Kind::Body) || after.is(Kind::Match),
             Kind::Match => after.is(Kind::Case),
             Kind::Body => after.is(Kind::Fun) || after.is(Kind::Explore),
@@ -347,7 +350,12 @@ fn read_args(alloc: Global, name: &Text, words: &[Text]) -> Result<Option<RawLin
     }
 }
 
-fn fun_of(alloc: Global, name: &Text, args: &[Text], sort: &Text) -> Result<Option<RawLine>, NoMemory>
+fn fun_of(
+    alloc: Global,
+    name: &Text,
+    args: &[Text],
+    sort: &Text,
+) -> Result<Option<RawLine>, NoMemory>
     ensures { IfOk result (λ found. found ≡ fun_of name.now args.now sort.now) }
 {
     if is_name(name.as_slice()) && all_names(args) && args.len() <= 8 && is_name(sort.as_slice()) {

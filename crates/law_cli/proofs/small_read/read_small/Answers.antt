@@ -1,4 +1,4 @@
-use Rattle.std.proofs.Common.{◌≡◌, ap, sym, ◌∙◌, map, Some, None}
+use Rattle.std.proofs.Common.{ap, sym, ◌∙◌, map, Some, None}
 use Rattle.law_cli.specs.SmallReadOrder.{in_order}
 use Rattle.law_cli.specs.SmallReadWords.{kind_at, lines_of}
 use Rattle.law_cli.proofs.SmallReadLines.{sound, no_order, no_lines, answered}
