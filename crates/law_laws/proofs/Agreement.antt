@@ -1,14 +1,18 @@
 -- Having the same values is an equivalence, and a term has one least.
-use Rattle.std.proofs.Common.{◌≡◌, ◌⊎◌, inl, inr, IsSome, List, [], ◌∷◌, sym, refl, ap₂, ◌∙◌, subst}
+use Rattle.std.proofs.Common.{◌≡◌, ℕ, ◌<◌, ◌⊎◌, inl, inr, IsSome, List, [], ◌∷◌, map, option_map, option_and_then, ap, sym, refl, ap₂, ◌∙◌, subst}
 use Rattle.law_sig.specs.Lists.{In, Each, Rising}
 use Rattle.law_sig.specs.Lists.In.{here, there}
-use Rattle.law_sig.specs.Tests.{Pools, Same, IsDefined, Agrees}
+use Rattle.law_sig.specs.Tests.{Pools, test_count, all_present, val, Same, IsDefined, Agrees}
 use Rattle.law_sig.specs.Order.{IsBefore}
 use Rattle.law_sig.specs.Laws.{IsLeast, IsLawList}
 use Rattle.law_sig.specs.declared.tree.SortId.{SortId}
+use Rattle.law_sig.specs.Evaluate.{Made, ap as applied}
+use Rattle.law_sig.specs.declared.tree.SymId.{SymId}
 use Rattle.law_sig.specs.declared.tree.Tree.{Tree}
+use Rattle.law_sig.specs.declared.tree.Tree.TheVariants.{App}
 use Rattle.law_sig.specs.declared.parts.Equation.{Equation}
 use Rattle.law_sig.specs.declared.parts.SigParts.{SigParts}
+use Rattle.law_laws.proofs.TreeFacts.{val-App}
 use Rattle.law_laws.proofs.ListFacts.{of_each, in_none, in_rest}
 use Rattle.law_laws.proofs.Orders.{never_before_itself, before_chain}
 
@@ -61,6 +65,28 @@ module _ (parts : SigParts) (pools : Pools) where
   -- a least term is its own least
   pub least_itself : (sort : SortId) (t u : Tree) → IsLeast parts pools sort t u → IsLeast parts pools sort u u
   least_itself sort t u l = least_moves sort t u u l.same l
+
+-- Arguments
+
+-- each of the first list has the values of the one at its place in the second
+abbrev pub AreSame : SigParts → Pools → List Tree → List Tree → Type 0
+AreSame parts pools [] [] = Unit {0}
+AreSame parts pools [] (t ∷ ts) = ⊥
+AreSame parts pools (s ∷ ss) [] = ⊥
+AreSame parts pools (s ∷ ss) (t ∷ ts) = Same parts pools s t × AreSame parts pools ss ts
+
+same_rows : (parts : SigParts) (pools : Pools) (test : ℕ) → test < test_count parts pools → (ss ts : List Tree) → AreSame parts pools ss ts
+    → map (val parts pools test) ss ≡ map (val parts pools test) ts
+same_rows parts pools test within [] [] h = refl
+same_rows parts pools test within [] (t ∷ ts) h = absurd h
+same_rows parts pools test within (s ∷ ss) [] h = absurd h
+same_rows parts pools test within (s ∷ ss) (t ∷ ts) h = ap₂ ◌∷◌ (h.0 test within) (same_rows parts pools test within ss ts h.1)
+
+-- an application has the values that it has with such arguments
+pub same_app_args : (parts : SigParts) (pools : Pools) (f : SymId) (ss ts : List Tree) → AreSame parts pools ss ts → Same parts pools (App f ss) (App f ts)
+same_app_args parts pools f ss ts h test within = val-App parts pools test f ss
+    ∙ ap (λ vs. option_and_then (λ values. option_map (λ (m : Made). m.value) (applied parts f values parts.settings.budget)) (all_present vs)) (same_rows parts pools test within ss ts h)
+    ∙ sym (val-App parts pools test f ts)
 
 -- Two lists in strict order with the same items are the same
 

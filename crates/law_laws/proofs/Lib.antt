@@ -12,3 +12,5 @@ pub mod Derivation
 pub mod Agreement
 pub mod Radix
 pub mod Renaming
+pub mod Universe
+pub mod Enumeration

@@ -3,14 +3,17 @@
 
 ghost use Rattle.law_laws.specs.Agreement.{AgreementIsShared, LeastTellsValues, OneLawList};
 ghost use Rattle.law_laws.specs.Application.{ComputedIsGiven, GivenIsComputed, OneValue, DepthChangesNothing, BudgetBoundsCost};
-ghost use Rattle.law_laws.specs.Coverage.{ListCovers};
+ghost use Rattle.law_laws.specs.Coverage.{ListCovers, LeastExists, ListInBudgetCovers};
 ghost use Rattle.law_laws.specs.Derivation.{DerivationKeepsSorts, InstancesAreDerivable, DerivableEquationsAddNothing};
 ghost use Rattle.law_laws.specs.Orders.{OrdersAreTotal, EqualIsSame, FallsWithArgument, DescentsEnd};
 ghost use Rattle.law_laws.specs.Renaming.{TestsAreRenamed, FlatTestsSeeSchemas};
 
-/// The law list covers, where every term of the universe has a value at every test and a least one.
+/// The law list covers, where every term of the universe has a value at every test and a least one; and each has a least
+/// one where nothing is over budget.
 pub fn coverage_laws()
-    ensures { ListCovers }
+    ensures covers { ListCovers }
+    ensures least { LeastExists }
+    ensures in_budget { ListInBudgetCovers }
 {}
 
 /// The orders of terms are total, equal only at the same term, and fall where an argument does; and every descent in
