@@ -3,10 +3,12 @@
 
 mod parts;
 mod seq;
+mod sig;
 mod text;
 mod tree;
 
 pub use parts::{Con, Equation, Fun, PoolRule, Settings, SigParts, Sym};
 pub use seq::{NoMemory, Seq};
+pub use sig::Sig;
 pub use text::Text;
 pub use tree::{Body, SortId, SymId, Tree};
