@@ -1,7 +1,8 @@
 -- Having the same values is an equivalence, and a term has one least.
-use Rattle.std.proofs.Common.{◌≡◌, ℕ, ◌<◌, ◌⊎◌, inl, inr, IsSome, List, [], ◌∷◌, map, option_map, option_and_then, ap, sym, refl, ap₂, ◌∙◌, subst}
+use Rattle.std.proofs.Common.{◌≡◌, ℕ, ◌<◌, ◌⊎◌, inl, inr, IsSome, Some, List, [], ◌∷◌, map, option_map, option_and_then, ap, sym, refl, ap₂, ◌∙◌, subst}
 use Rattle.law_sig.specs.Lists.{In, Each, Rising}
 use Rattle.law_sig.specs.Lists.In.{here, there}
+use Rattle.law_sig.specs.Signature.{sort_of}
 use Rattle.law_sig.specs.Tests.{Pools, test_count, all_present, val, Same, IsDefined, Agrees}
 use Rattle.law_sig.specs.Order.{IsBefore}
 use Rattle.law_sig.specs.Laws.{IsLeast, IsLawList}
@@ -39,32 +40,36 @@ module _ (parts : SigParts) (pools : Pools) where
   pub agrees_chain : (s t u : Tree) → Agrees parts pools s t → Agrees parts pools t u → Agrees parts pools s u
   agrees_chain s t u a e = record { same = same_chain s t u a.same e.same; defined = a.defined }
 
-  -- what is least for a term is least for each with the same values
-  pub least_moves : (sort : SortId) (s t u : Tree) → Same parts pools s t → IsLeast parts pools sort s u → IsLeast parts pools sort t u
-  least_moves sort s t u same l = record {
+  -- what is least for a term is least for each of its sort with the same values
+  pub least_moves : (sort : SortId) (s t u : Tree) → sort_of parts t ≡ Some sort → Same parts pools s t → IsLeast parts pools sort s u → IsLeast parts pools sort t u
+  least_moves sort s t u sorted same l = record {
+    sorted = sorted;
     bounded = l.bounded;
     same = same_chain t s u (same_back s t same) l.same;
     least = λ w w_in w_same. l.least w w_in (same_chain s t w same w_same);
   }
 
-  pub one_least : (sort : SortId) (t u w : Tree) → IsLeast parts pools sort t u → IsLeast parts pools sort t w → u ≡ w
-  one_least sort t u w l m = by (l.least w m.bounded m.same) (m.least u l.bounded l.same)
+  -- terms of one sort have the same least exactly where they have the same values
+  pub same_least : (sort : SortId) (s t u w : Tree) → IsLeast parts pools sort s u → IsLeast parts pools sort t w → Same parts pools s t → u ≡ w
+  same_least sort s t u w l m same = by
+      (l.least w m.bounded (same_chain s t w same m.same))
+      (m.least u l.bounded (same_chain t s u (same_back s t same) l.same))
     where
       by : (w ≡ u) ⊎ IsBefore parts u w → (u ≡ w) ⊎ IsBefore parts w u → u ≡ w
       by (inl e) k = sym e
       by (inr h) (inl e) = e
       by (inr h) (inr k) = absurd (never_before_itself parts u (before_chain parts u w u h k))
 
-  -- terms of one sort have the same least exactly where they have the same values
-  pub same_least : (sort : SortId) (s t u w : Tree) → IsLeast parts pools sort s u → IsLeast parts pools sort t w → Same parts pools s t → u ≡ w
-  same_least sort s t u w l m same = one_least sort t u w (least_moves sort s t u same l) m
-
   pub least_same : (sort : SortId) (s t u w : Tree) → IsLeast parts pools sort s u → IsLeast parts pools sort t w → u ≡ w → Same parts pools s t
   least_same sort s t u w l m e = same_chain s u t l.same (same_back t u (subst (Same parts pools t) (sym e) m.same))
 
+  -- a term has one least
+  pub one_least : (sort : SortId) (t u w : Tree) → IsLeast parts pools sort t u → IsLeast parts pools sort t w → u ≡ w
+  one_least sort t u w l m = same_least sort t t u w l m (same_itself t)
+
   -- a least term is its own least
   pub least_itself : (sort : SortId) (t u : Tree) → IsLeast parts pools sort t u → IsLeast parts pools sort u u
-  least_itself sort t u l = least_moves sort t u u l.same l
+  least_itself sort t u l = least_moves sort t u u l.bounded.sorted l.same l
 
 -- Arguments
 

@@ -193,6 +193,7 @@ has_least parts pools weighs sort defined t t_in = by (least_of parts pools sort
     by (u, l) = (
       u,
       record {
+        sorted = t_in.sorted;
         bounded = l.bounded;
         same = l.same;
         least = λ w w_in same. l.least w (found parts weighs w parts.settings.size sort w_in w_in.small) w_in same;

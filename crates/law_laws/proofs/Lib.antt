@@ -14,3 +14,5 @@ pub mod Radix
 pub mod Renaming
 pub mod Universe
 pub mod Enumeration
+pub mod Inversion
+pub mod Filling

@@ -5,6 +5,7 @@ ghost use Rattle.law_laws.specs.Agreement.{AgreementIsShared, LeastTellsValues, 
 ghost use Rattle.law_laws.specs.Application.{ComputedIsGiven, GivenIsComputed, OneValue, DepthChangesNothing, BudgetBoundsCost};
 ghost use Rattle.law_laws.specs.Coverage.{ListCovers, LeastExists, ListInBudgetCovers};
 ghost use Rattle.law_laws.specs.Derivation.{DerivationKeepsSorts, InstancesAreDerivable, DerivableEquationsAddNothing};
+ghost use Rattle.law_laws.specs.Filling.{NumberedTermsFill};
 ghost use Rattle.law_laws.specs.Orders.{OrdersAreTotal, EqualIsSame, FallsWithArgument, DescentsEnd};
 ghost use Rattle.law_laws.specs.Renaming.{TestsAreRenamed, FlatTestsSeeSchemas};
 
@@ -50,8 +51,9 @@ pub fn agreement_laws()
 {}
 
 /// The tests are closed under renaming the variables of each sort, and a flat test gives a term and its schema the same
-/// value.
+/// value; and a term whose variables are numbered from the left becomes any term of its schema by a renaming.
 pub fn test_laws()
     ensures renamed { TestsAreRenamed }
     ensures flat { FlatTestsSeeSchemas }
+    ensures filled { NumberedTermsFill }
 {}
