@@ -2,3 +2,4 @@ pub mod Small
 pub mod Printed
 pub mod Promise
 pub mod Reading
+pub mod SmallReadPlain
