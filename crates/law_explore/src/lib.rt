@@ -1,0 +1,9 @@
+//! The terms of a signature's universe in the order of exploring, and the law list that the tests give.
+#![tactic(auto)]
+
+mod list;
+mod rows;
+mod schemas;
+mod explore;
+
+pub use explore::universe;
