@@ -14,7 +14,8 @@ use Rattle.law_sig.specs.declared.parts.SigParts.{SigParts}
 abbrev pub KeepsSorts : SigParts → Subst → Type 0
 KeepsSorts parts σ = (sort : SortId) (index : ℕ) → IsTrue (is_declared_sort parts sort) → sort_of parts (σ sort index) ≡ Some sort
 
--- two terms are derivable as equal from the equations, over all declared symbols and variables of any index
+-- two terms are derivable as equal from the equations. The rules speak of any trees, with variables of any index; where the
+-- equations have two sides of one sort each, a law says that no rule leads from a well-sorted term to one of another sort
 pub data Derivable (parts : SigParts) (equations : List Equation) : Tree → Tree → Type 0 where
   reflexive : (s : Tree) → Derivable parts equations s s
   symmetric : (s t : Tree) → Derivable parts equations s t → Derivable parts equations t s

@@ -1,6 +1,7 @@
 -- Laws, the law list of a signature, and when laws cover the universe.
 use Rattle.std.specs.Prelude.{◌≡◌, ◌≢◌, ℕ, ◌<◌, ◌⊎◌, ◌↔◌, List, ◌++◌, Some}
 use Rattle.law_sig.specs.Lists.{In, Each, Rising}
+use Rattle.law_sig.specs.Signature.{sort_of}
 use Rattle.law_sig.specs.Tests.{InU, Pools, test_count, val, Same, Agrees}
 use Rattle.law_sig.specs.Order.{IsBefore}
 use Rattle.law_sig.specs.Derive.{Derivable}
@@ -35,6 +36,7 @@ pub record IsCovered (parts : SigParts) (pools : Pools) (laws : List Equation) :
 
 -- u is the first term of the universe, in the order of exploring, that has the sort of t and agrees with it
 pub record IsLeast (parts : SigParts) (pools : Pools) (sort : SortId) (t u : Tree) : Type 0 where
+  pub sorted : sort_of parts t ≡ Some sort
   pub bounded : InU parts sort u
   pub same : Same parts pools t u
   pub least : (w : Tree) → InU parts sort w → Same parts pools t w → (w ≡ u) ⊎ IsBefore parts u w

@@ -1,4 +1,5 @@
--- The same application as a derivation: a rule for each kind of body, whose costs add up.
+-- The same application as a big-step semantics with its cost: a rule for each kind of body. A law says that it gives
+-- exactly what the function of `Evaluate` computes.
 use Rattle.std.specs.Prelude.{◌≡◌, ℕ, ◌+◌, List, [], ◌∷◌, Some, slice_get}
 use Rattle.law_sig.specs.Signature.{symbol_at}
 use Rattle.law_sig.specs.Evaluate.{Chosen, chosen}

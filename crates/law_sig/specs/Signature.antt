@@ -19,7 +19,7 @@ is_declared_sort parts sort = nat_lt sort.0 (length parts.sort_names)
 abbrev pub symbol_at : SigParts → SymId → Option Sym
 symbol_at parts f = slice_get parts.symbols f.0
 
--- the sorts of a symbol's arguments, and of its results
+-- the sorts of a symbol's arguments, and the sort of its result
 abbrev pub args_of : Sym → List SortId
 args_of (sym.Con con) = con.args
 args_of (sym.Fun fun) = fun.args
@@ -55,13 +55,17 @@ width_at parts sort = slice_index_or parts.settings.width sort.0 1
 abbrev pub weight_at : SigParts → SymId → ℕ
 weight_at parts f = slice_index_or parts.settings.weights f.0 1
 
+-- whether there is a sort, and it is the one that is wanted
+abbrev pub has_sort : Option SortId → SortId → Bool
+has_sort None wanted = false
+has_sort (Some sort) wanted = same_sort sort wanted
+
 -- whether the arguments have exactly the sorts that are wanted
 abbrev pub same_sorts : List (Option SortId) → List SortId → Bool
 same_sorts [] [] = true
 same_sorts [] (w ∷ ws) = false
 same_sorts (s ∷ ss) [] = false
-same_sorts (None ∷ ss) (w ∷ ws) = false
-same_sorts (Some s ∷ ss) (w ∷ ws) = same_sort s w && same_sorts ss ws
+same_sorts (s ∷ ss) (w ∷ ws) = has_sort s w && same_sorts ss ws
 
 -- the sort of a symbol over arguments of these sorts
 abbrev pub sort_over : Option Sym → List (Option SortId) → Option SortId

@@ -74,7 +74,7 @@ assignments parts = product (radices parts)
 abbrev pub digit_in : List ℕ → ℕ → ℕ → ℕ
 digit_in bases k n = (n / product (take k bases)) % slice_index_or bases k 1
 
--- the place in the pool that a variable reads at a test
+-- the place in the pool that a variable reads at a test; only variables below their sort's number are ever asked
 abbrev pub digit : SigParts → ℕ → SortId → ℕ → ℕ
 digit parts test sort index = digit_in (radices parts) (variable_number parts sort index) (test % assignments parts)
 
@@ -109,9 +109,9 @@ val_step parts pools test (o.App head args) =
 abbrev pub val : SigParts → Pools → ℕ → Tree → Option Tree
 val parts pools test = fold-Tree (Option Tree) (val_step parts pools test)
 
--- Agreement
+-- Agreement, of terms of one sort
 
--- at every test both terms have the same value, or neither has one
+-- the weaker one: at every test both terms have the same value, or neither has one
 abbrev pub Same : SigParts → Pools → Tree → Tree → Type 0
 Same parts pools s t = (test : ℕ) → test < test_count parts pools → val parts pools test s ≡ val parts pools test t
 
@@ -119,7 +119,7 @@ Same parts pools s t = (test : ℕ) → test < test_count parts pools → val pa
 abbrev pub IsDefined : SigParts → Pools → Tree → Type 0
 IsDefined parts pools t = (test : ℕ) → test < test_count parts pools → IsSome (val parts pools test t)
 
--- both terms have a value at every test, and the same one
+-- the stronger one: both terms have a value at every test, and the same one
 pub record Agrees (parts : SigParts) (pools : Pools) (s t : Tree) : Type 0 where
   pub same : Same parts pools s t
   pub defined : IsDefined parts pools s

@@ -24,6 +24,12 @@ use Rattle.law_sig.specs.declared.parts.PoolRule.{PoolRule}
 use Rattle.law_sig.specs.declared.parts.PoolRule.TheVariants as rule
 use Rattle.law_sig.specs.declared.parts.SigParts.{SigParts}
 
+-- Ranges
+
+-- from low to high, both included
+abbrev pub IsBetween : ℕ → ℕ → ℕ → Type 0
+IsBetween low high n = (low ≤ n) × (n ≤ high)
+
 -- Values
 
 -- whether a symbol is a constructor
@@ -43,9 +49,9 @@ pub record IsValueOf (parts : SigParts) (sort : SortId) (v : Tree) : Type 0 wher
 
 -- Bounds of what is written down: at most 4,096 nodes, and a depth of at most 256
 
-pub record IsWritable (nodes deep : ℕ) : Type 0 where
+pub record IsWritable (nodes levels : ℕ) : Type 0 where
   pub nodes_bound : nodes ≤ 4096
-  pub depth_bound : deep ≤ 256
+  pub depth_bound : levels ≤ 256
 
 -- Bodies
 
@@ -66,13 +72,14 @@ abbrev pub part_is_field : Option Part → Bool
 part_is_field None = false
 part_is_field (Some part) = part.is_field
 
--- a function may be called where it is declared earlier, or is the function itself with a field at the match place
+-- whether these arguments have directly a field at the match place
 abbrev pub falls : Option ℕ → List Part → Bool
-falls None parts = false
-falls (Some place) parts = part_is_field (slice_get parts place)
+falls None args = false
+falls (Some place) args = part_is_field (slice_get args place)
 
+-- a function may be called where it is declared earlier, or is the function itself and the call falls
 abbrev pub may_call : Scope → SymId → List Part → Bool
-may_call scope f parts = nat_lt f.0 scope.owner.0 || (same_symbol f scope.owner && falls scope.place parts)
+may_call scope f args = nat_lt f.0 scope.owner.0 || (same_symbol f scope.owner && falls scope.place args)
 
 abbrev pub is_function : Option Sym → Bool
 is_function None = false
@@ -85,20 +92,20 @@ where_true true sort = sort
 where_true false sort = None
 
 abbrev pub part_step : SigParts → Scope → Body-F Part → Part
-part_step sig scope (b.Field number) = record { sort = slice_get scope.fields number; is_field = true }
-part_step sig scope (b.Param number) = record { sort = slice_get scope.params number; is_field = false }
-part_step sig scope (b.Make head args) = record {
-  sort = where_true (is_constructor (symbol_at sig head)) (sort_over (symbol_at sig head) (map (λ (p : Part). p.sort) args));
+part_step parts scope (b.Field number) = record { sort = slice_get scope.fields number; is_field = true }
+part_step parts scope (b.Param number) = record { sort = slice_get scope.params number; is_field = false }
+part_step parts scope (b.Make head args) = record {
+  sort = where_true (is_constructor (symbol_at parts head)) (sort_over (symbol_at parts head) (map (λ (p : Part). p.sort) args));
   is_field = false;
 }
-part_step sig scope (b.Call head args) = record {
-  sort = where_true (is_function (symbol_at sig head) && may_call scope head args) (sort_over (symbol_at sig head) (map (λ (p : Part). p.sort) args));
+part_step parts scope (b.Call head args) = record {
+  sort = where_true (is_function (symbol_at parts head) && may_call scope head args) (sort_over (symbol_at parts head) (map (λ (p : Part). p.sort) args));
   is_field = false;
 }
 
 -- the sort of a body, and none where it isn't well-formed
 abbrev pub sort_of_body : SigParts → Scope → Body → Option SortId
-sort_of_body sig scope body = (fold-Body Part (part_step sig scope) body).sort
+sort_of_body parts scope body = (fold-Body Part (part_step parts scope) body).sort
 
 -- a body of a function: well-formed, of the function's result sort, and within the bounds of what is written
 pub record IsBody (parts : SigParts) (scope : Scope) (result : SortId) (body : Body) : Type 0 where
@@ -119,8 +126,8 @@ AreCases parts P (c ∷ cs) (body ∷ bodies) = IsCase P (symbol_at parts c) bod
 
 -- Symbols
 
-abbrev pub is_declared : SigParts → SortId → Type 0
-is_declared parts sort = IsTrue (is_declared_sort parts sort)
+abbrev pub IsDeclared : SigParts → SortId → Type 0
+IsDeclared parts sort = IsTrue (is_declared_sort parts sort)
 
 -- either one body, or one for each constructor of the sort at the match place
 abbrev pub FitsPlace : SigParts → SymId → Fun → Option ℕ → Type 0
@@ -129,15 +136,16 @@ FitsPlace parts f fun (Some place) = (sort : SortId) × (slice_get fun.args plac
     × AreCases parts (λ fields body. IsBody parts (record { owner = f; place = Some place; fields = fields; params = fun.args }) fun.result body)
     (constructors parts sort) fun.cases
 
--- a symbol speaks of declared sorts, has at most 8 arguments, and a function has its bodies
+-- a function has its bodies
 abbrev pub HasBodies : SigParts → SymId → Sym → Type 0
 HasBodies parts f (sym.Con con) = Unit {0}
 HasBodies parts f (sym.Fun fun) = FitsPlace parts f fun fun.place
 
+-- a symbol speaks of declared sorts and has at most 8 arguments
 pub record IsSymbol (parts : SigParts) (f : SymId) (symbol : Sym) : Type 0 where
-  pub args_declared : Each (is_declared parts) (args_of symbol)
+  pub args_declared : Each (IsDeclared parts) (args_of symbol)
   pub args_bound : length (args_of symbol) ≤ 8
-  pub result_declared : is_declared parts (result_of symbol)
+  pub result_declared : IsDeclared parts (result_of symbol)
   pub bodies : HasBodies parts f symbol
 
 -- Background equations
@@ -186,12 +194,12 @@ is_within_height parts (suc n) sort = list_any (makes_from (is_within_height par
 
 pub record IsSeeded (parts : SigParts) (seed height count : ℕ) : Type 0 where
   pub seed_range : seed < 2 ^ 63
-  pub height_range : (1 ≤ height) × (height ≤ 16)
-  pub count_range : (1 ≤ count) × (count ≤ 16)
-  pub high_enough : (sort : SortId) → is_declared parts sort → IsTrue (is_within_height parts height sort)
+  pub height_range : IsBetween 1 16 height
+  pub count_range : IsBetween 1 16 count
+  pub high_enough : (sort : SortId) → IsDeclared parts sort → IsTrue (is_within_height parts height sort)
 
 pub record AreGiven (parts : SigParts) (pools : List (List (List Tree))) : Type 0 where
-  pub pools_range : (1 ≤ length pools) × (length pools ≤ 16)
+  pub pools_range : IsBetween 1 16 (length pools)
   pub each_pool : Each (IsPool parts) pools
 
 abbrev pub IsPoolRule : SigParts → PoolRule → Type 0
@@ -199,10 +207,6 @@ IsPoolRule parts (rule.Given pools) = AreGiven parts pools
 IsPoolRule parts (rule.Seeded seed height count) = IsSeeded parts seed height count
 
 -- The whole signature
-
--- from low to high, both included
-abbrev pub IsBetween : ℕ → ℕ → ℕ → Type 0
-IsBetween low high n = (low ≤ n) × (n ≤ high)
 
 -- a list with one number for each sort or symbol, each in the range
 pub record AreNumbers (count low high : ℕ) (numbers : List ℕ) : Type 0 where
@@ -229,7 +233,7 @@ pub record AreSettings (parts : SigParts) : Type 0 where
 pub record IsWellFormed (parts : SigParts) : Type 0 where
   pub sorts_range : IsBetween 1 64 (length parts.sort_names)
   pub sort_names : AreNames parts.sort_names
-  pub every_sort_has_a_value : (sort : SortId) → is_declared parts sort → (v : Tree) × IsValueOf parts sort v
+  pub every_sort_has_a_value : (sort : SortId) → IsDeclared parts sort → (v : Tree) × IsValueOf parts sort v
   pub symbols_range : length parts.symbols < 2 ^ 32
   pub one_name_each : length parts.symbol_names ≡ length parts.symbols
   pub symbol_names : AreNames parts.symbol_names

@@ -1,8 +1,8 @@
-ghost use Rattle.std.specs.Prelude.{◌≡◌, ◌<◌, ◌^◌, ◌-◌, ◌++◌, min, length, slice_get, option_map, IfOk, IsTrue};
+ghost use Rattle.std.specs.Prelude.{◌≡◌, ◌<◌, ◌^◌, ◌-◌, ◌++◌, min, length, slice_get, slice_index_or, option_map, IfOk, IsTrue};
 ghost use Rattle.std.specs.Option.{option_copied};
 ghost use Rattle.law_sig.specs.WellFormed.{IsWellFormed};
 ghost use Rattle.law_sig.specs.Table.{HasRows};
-ghost use Rattle.law_sig.specs.Signature.{makes_sort, constructors, constructors_from, is_declared_sort, symbol_at, sort_of, args_of, result_of};
+ghost use Rattle.law_sig.specs.Signature.{makes_sort, constructors, constructors_from, is_declared_sort, symbol_at, sort_of, args_of, result_of, has_sort};
 ghost use Rattle.law_sig.specs.Tests.{weight};
 
 use super::parts::{Settings, SigParts, Sym};
@@ -57,6 +57,46 @@ fn makes(symbol: &Sym, sort: SortId) -> bool
     match symbol {
         Sym::Con(con) => con.sort.0 == sort.0,
         Sym::Fun(_) => false,
+    }
+}
+
+/// The sorts of a symbol's arguments.
+fn args_of(symbol: &Sym) -> &[SortId]
+    ensures { result.now ≡ args_of symbol.now }
+{
+    match symbol {
+        Sym::Con(con) => con.args.as_slice(),
+        Sym::Fun(fun) => fun.args.as_slice(),
+    }
+}
+
+/// The sort of what a symbol gives.
+fn result_of(symbol: &Sym) -> SortId
+    ensures { result ≡ result_of symbol.now }
+{
+    match symbol {
+        Sym::Con(con) => con.sort,
+        Sym::Fun(fun) => fun.result,
+    }
+}
+
+/// Whether there is a sort, and it is the one that is wanted.
+fn is_sort(sort: Option<SortId>, wanted: SortId) -> bool
+    ensures { result ≡ has_sort sort wanted }
+{
+    match sort {
+        Some(found) => found.0 == wanted.0,
+        None => false,
+    }
+}
+
+/// The weight that is stated for a symbol, and 1 where none is.
+fn weight_in(weights: &[u32], sym: SymId) -> u32
+    ensures { result ≡ slice_index_or weights.now sym.0 1 }
+{
+    match weights.get(sym.0 as usize) {
+        Some(found) => *found,
+        None => 1,
     }
 }
 
@@ -130,9 +170,55 @@ impl Sig {
         ensures { option_map args_of (symbol_at self.now sym) ≡ Some result.now }
     {
         match self.parts.symbols.get(sym.0 as usize) {
-            Some(Sym::Con(con)) => con.args.as_slice(),
-            Some(Sym::Fun(fun)) => fun.args.as_slice(),
+            Some(symbol) => args_of(symbol),
             None => unreachable!(),
+        }
+    }
+
+    /// The sort of a term over the declared symbols and variables of declared sorts with any index; `None` exactly where
+    /// the term isn't well-sorted.
+    pub fn sort_of(&self, tree: &Tree) -> Option<SortId>
+        ensures { result ≡ sort_of self.now tree.now }
+    {
+        match tree {
+            Tree::Var(sort, _) => {
+                if (sort.0 as usize) < self.parts.sort_names.len() {
+                    Some(*sort)
+                } else {
+                    None
+                }
+            }
+            Tree::App(head, args) => {
+                let Some(symbol) = self.parts.symbols.get(head.0 as usize) else {
+                    return None;
+                };
+                let wanted = args_of(symbol);
+                if args.len() != wanted.len() {
+                    return None;
+                }
+                for (at, arg) in args.as_slice().iter().enumerate() {
+                    if !is_sort(self.sort_of(arg), wanted[at]) {
+                        return None;
+                    }
+                }
+                Some(result_of(symbol))
+            }
+        }
+    }
+
+    /// The weight of a term, or 2^64 - 1 where it is that or more: a variable weighs 1, a symbol its stated weight.
+    pub fn weight(&self, tree: &Tree) -> u64
+        ensures { result ≡ min (weight self.now tree.now) (2 ^ 64 - 1) }
+    {
+        match tree {
+            Tree::Var(_, _) => 1,
+            Tree::App(head, args) => {
+                let mut sum = weight_in(self.parts.settings.weights.as_slice(), *head) as u64;
+                for arg in args.as_slice() {
+                    sum = sum.saturating_add(self.weight(arg));
+                }
+                sum
+            }
         }
     }
 
@@ -142,8 +228,7 @@ impl Sig {
         ensures { option_map result_of (symbol_at self.now sym) ≡ Some result }
     {
         match self.parts.symbols.get(sym.0 as usize) {
-            Some(Sym::Con(con)) => con.sort,
-            Some(Sym::Fun(fun)) => fun.result,
+            Some(symbol) => result_of(symbol),
             None => unreachable!(),
         }
     }

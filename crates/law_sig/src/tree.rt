@@ -1,4 +1,5 @@
-ghost use Rattle.std.specs.Prelude.{◌≡◌, ◌↔◌, IsTrue, IfOk};
+ghost use Rattle.std.specs.Prelude.{◌≡◌, ◌-◌, ◌^◌, ◌↔◌, min, IsTrue, IfOk};
+ghost use Rattle.law_sig.specs.Trees.{node_count};
 
 use super::seq::{NoMemory, Seq};
 use std::alloc::Global;
@@ -41,6 +42,22 @@ impl Tree {
                     copies.push(arg.copy(alloc)?)?;
                 }
                 Ok(Tree::App(*head, copies))
+            }
+        }
+    }
+
+    /// The number of nodes, or 2^64 - 1 where it is that or more.
+    pub fn size(&self) -> u64
+        ensures { result ≡ min (node_count self.now) (2 ^ 64 - 1) }
+    {
+        match self {
+            Tree::Var(_, _) => 1,
+            Tree::App(_, args) => {
+                let mut count = 1u64;
+                for arg in args.as_slice() {
+                    count = count.saturating_add(arg.size());
+                }
+                count
             }
         }
     }

@@ -1,0 +1,2 @@
+pub mod SizeFacts
+pub mod SortFacts
