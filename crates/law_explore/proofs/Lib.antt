@@ -1,3 +1,7 @@
 pub mod Levels
 pub mod Rising
 pub mod RowFacts
+pub mod Earlier
+pub mod SortFacts
+pub mod SchemaFacts
+
