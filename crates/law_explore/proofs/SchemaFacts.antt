@@ -1,6 +1,7 @@
 -- The lists of schemas are, weight by weight, exactly the schemas of the universe, rising in the order K.
 use Rattle.std.proofs.Common.{◌≡◌, ℕ, zero, suc, ◌+◌, ◌-◌, ◌<◌, ◌≤◌, ◌⊎◌, inl, inr, ◌==◌, Bool, true, false, ◌&&◌, if◌then◌else◌, nat_lt, nat_le, Option, Some, None, IsTrue, List, [], ◌∷◌, ◌++◌, length, map, slice_get, slice_index_or, arith, rules, refl, sym, ap, ap₂, ◌∙◌, subst}
 use Rattle.std.proofs.Math.Nat.{eq-or-lt_of_le}
+use Rattle.std.proofs.Math.Path.{subst₂}
 use Rattle.std.specs.List.{list_all}
 use Rattle.std.proofs.lemmas.Bool.{eqb-true, eq-eqb, ltb-true, lt-ltb, cases_lt}
 use Rattle.std.proofs.lemmas.List.{get_or_past, get_or_push, get_or_append_left, length_push}
@@ -230,3 +231,164 @@ module _ (parts : SigParts) (n : ℕ) (levels : List (List Tree)) (are : AreLeve
               (record { same = a.fits; weighs = omega arith; bounded = bounded; flat = flat }));
         is = refl;
       }
+
+  -- The first variables
+
+  in_first_variable : (sort : SortId) (t : Tree) → In t (first_variable parts sort) → (nat_lt 0 (vars_at parts sort) ≡ true) × (t ≡ Var sort 0)
+  in_first_variable sort t at = elim (in_kept (nat_lt 0 (vars_at parts sort)) (Var sort 0) [] at) [ inl h ↦ (h.1, h.0) | inr h ↦ elim h [ ] ]
+
+  first_variable_in : (sort : SortId) → nat_lt 0 (vars_at parts sort) ≡ true → In (Var sort 0) (first_variable parts sort)
+  first_variable_in sort e = kept_first (nat_lt 0 (vars_at parts sort)) (Var sort 0) [] e
+
+  variable_rising : (sort : SortId) → Rising (Earlier parts) (first_variable parts sort)
+  variable_rising sort = kept_rising (Earlier parts) (nat_lt 0 (vars_at parts sort)) (Var sort 0) [] tt tt
+
+  -- a variable that is a schema
+  record IsFirst (t : Tree) : Type 0 where
+    number : ℕ
+    declared : number < length parts.sort_names
+    some : nat_lt 0 (vars_at parts (record { 0 = number })) ≡ true
+    is : t ≡ Var (record { 0 = number }) 0
+
+  in_first_variables : (t : Tree) → In t (first_variables parts) → IsFirst t
+  in_first_variables t at =
+      let (i, less, p) = in_each_below (length parts.sort_names) (λ i. first_variable parts (record { 0 = i })) at in
+      let (some, is) = in_first_variable (record { 0 = i }) t p in
+      record { number = i; declared = less; some = some; is = is }
+
+  variables_rising : Rising (Earlier parts) (first_variables parts)
+  variables_rising = each_below_rising (Earlier parts) (length parts.sort_names) (λ i. first_variable parts (record { 0 = i }))
+      (λ k less. variable_rising (record { 0 = k }))
+      (λ j k less within s t p q.
+        let (some, is) = in_first_variable (record { 0 = j }) s p in
+        let (more, is_too) = in_first_variable (record { 0 = k }) t q in
+        subst₂ (Earlier parts) (sym is) (sym is_too) (sort_earlier parts (record { 0 = j }) (record { 0 = k }) 0 0 less))
+
+  first_sound : (t : Tree) → IsFirst t → IsSchema parts 1 t
+  first_sound t a = by (record { 0 = a.number }) a.is (lt-ltb a.number (length parts.sort_names) a.declared) a.some
+    where
+      declared_some : (b : Bool) (sort : SortId) → b ≡ true → (if b then Some sort else None) ≡ Some sort
+      declared_some true sort e = refl
+      declared_some false sort e = cc
+
+      by : (sort : SortId) → t ≡ Var sort 0 → is_declared_sort parts sort ≡ true → nat_lt 0 (vars_at parts sort) ≡ true → IsSchema parts 1 t
+      by sort is declared some = record {
+        sort = sort;
+        sorted = ap (sort_of parts) is ∙ sort-Var parts sort 0 ∙ declared_some (is_declared_sort parts sort) sort declared;
+        bounded = ap (is_bounded parts) is ∙ bounded-Var parts sort 0 ∙ some;
+        flat = ap schema_of is ∙ schema-Var sort 0 ∙ sym is;
+        weighs = ap (weight parts) is ∙ weight-Var parts sort 0;
+      }
+
+  first_complete : (sort : SortId) (index : ℕ) → IsSchema parts (suc n) (Var sort index) → (suc n ≡ 1) × In (Var sort index) (first_variables parts)
+  first_complete sort index s =
+      let (same, zero_is) = same_var sort sort 0 index (sym (schema-Var sort index) ∙ s.flat) in
+      let (declared, is) = some_if (is_declared_sort parts sort) sort s.sort (sym (sort-Var parts sort index) ∙ s.sorted) in
+      let bounded : nat_lt 0 (vars_at parts sort) ≡ true = ap (λ i. nat_lt i (vars_at parts sort)) zero_is ∙ sym (bounded-Var parts sort index) ∙ s.bounded in
+      (sym s.weighs ∙ weight-Var parts sort index,
+        subst (λ i. In (Var sort i) (first_variables parts)) zero_is
+        (each_below_in (length parts.sort_names) (λ i. first_variable parts (record { 0 = i })) sort.0 (ltb-true sort.0 (length parts.sort_names) declared)
+          (first_variable_in sort bounded)))
+
+  -- A level
+
+  in_variables_if : (b : Bool) (t : Tree) → In t (if b then first_variables parts else []) → (b ≡ true) × IsFirst t
+  in_variables_if true t at = (refl, in_first_variables t at)
+  in_variables_if false t at = elim at [ ]
+
+  variables_if_in : (b : Bool) (t : Tree) → b ≡ true → In t (first_variables parts) → In t (if b then first_variables parts else [])
+  variables_if_in true t e at = at
+  variables_if_in false t e at = cc
+
+  variables_if_rising : (b : Bool) → Rising (Earlier parts) (if b then first_variables parts else [])
+  variables_if_rising true = variables_rising
+  variables_if_rising false = tt
+
+  symbol_sound : (w i : ℕ) (t : Tree) → In t (applications parts levels w (record { 0 = i })) → IsOver w (record { 0 = i }) (symbol_at parts (record { 0 = i })) t
+  symbol_sound w i t at = in_applications w (record { 0 = i }) (symbol_at parts (record { 0 = i })) t at
+
+  level_sound : (w : ℕ) (t : Tree) → In t (level parts levels w) → IsSchema parts w t
+  level_sound w t at = elim (in_split (if w == 1 then first_variables parts else []) (each_below (length parts.symbols) (λ i. applications parts levels w (record { 0 = i }))) at) [
+      inl h ↦ let (b, first) = in_variables_if (w == 1) t h in
+        subst (λ k. IsSchema parts k t) (sym (eqb-true w 1 b)) (first_sound t first)
+    | inr h ↦ let (i, less, p) = in_each_below (length parts.symbols) (λ i. applications parts levels w (record { 0 = i })) h in
+        over_sound w (record { 0 = i }) t (symbol_sound w i t p)
+    ]
+
+  level_complete : WeighsSomething parts → (t : Tree) → IsSchema parts (suc n) t → In t (level parts levels (suc n))
+  level_complete weighs = tree_cases (λ t. IsSchema parts (suc n) t → In t (level parts levels (suc n)))
+      (λ sort index s. let (one, at) = first_complete sort index s in
+        in_left (each_below (length parts.symbols) (λ i. applications parts levels (suc n) (record { 0 = i })))
+        (variables_if_in (suc n == 1) (Var sort index) (eq-eqb (suc n) 1 one) at))
+      (λ f args s. let over = over_complete weighs f args s in
+        in_right (if suc n == 1 then first_variables parts else [])
+        (each_below_in (length parts.symbols) (λ i. applications parts levels (suc n) (record { 0 = i })) f.0
+          (slice_get_within parts.symbols f.0 over.symbol over.declared)
+          (applications_in (suc n) f (symbol_at parts f) (App f args) over)))
+
+  applications_rising : (w : ℕ) (f : SymId) (o : Option Sym) → symbol_at parts f ≡ o → Rising (Earlier parts) (applications_of parts levels w f o)
+  applications_rising w f None found = tt
+  applications_rising w f (Some symbol) found = by (is_explored parts f) (nat_le (weight_at parts f) w) refl refl
+    where
+      by : (b c : Bool) → is_explored parts f ≡ b → nat_le (weight_at parts f) w ≡ c
+          → Rising (Earlier parts) (if b && c then over_each f (rows_of (of_weight parts levels) (args_of symbol) (w - weight_at parts f)) else [])
+      by true true e d = rising_map (Lex (Earlier parts)) (Earlier parts) (App f) (rows_of (of_weight parts levels) (args_of symbol) (w - weight_at parts f))
+          (λ x y p q h. rows_earlier parts f x y
+            (weight-App parts f x ∙ ap (λ k. weight_at parts f + k) ((args_sound (args_of symbol) (w - weight_at parts f) x (in_rows (of_weight parts levels) (args_of symbol) (w - weight_at parts f) x p)).weighs
+              ∙ sym ((args_sound (args_of symbol) (w - weight_at parts f) y (in_rows (of_weight parts levels) (args_of symbol) (w - weight_at parts f) y q)).weighs))
+              ∙ sym (weight-App parts f y)) h)
+          (arg_rows_rising (args_of symbol) (w - weight_at parts f))
+      by true false e d = tt
+      by false c e d = tt
+
+  level_rising : (w : ℕ) → Rising (Earlier parts) (level parts levels w)
+  level_rising w = rising_append (Earlier parts) (if w == 1 then first_variables parts else []) (each_below (length parts.symbols) (λ i. applications parts levels w (record { 0 = i })))
+      (variables_if_rising (w == 1))
+      (each_below_rising (Earlier parts) (length parts.symbols) (λ i. applications parts levels w (record { 0 = i }))
+        (λ k less. applications_rising w (record { 0 = k }) (symbol_at parts (record { 0 = k })) refl)
+        (λ j k less within s t p q.
+          let a = symbol_sound w j s p in
+          let b = symbol_sound w k t q in
+          let x = (over_sound w (record { 0 = j }) s a).weighs in
+          let y = (over_sound w (record { 0 = k }) t b).weighs in
+          subst₂ (Earlier parts) (sym a.is) (sym b.is)
+          (symbol_earlier parts (record { 0 = j }) (record { 0 = k }) a.args b.args (ap (weight parts) (sym a.is) ∙ x ∙ sym y ∙ ap (weight parts) b.is) less)))
+      (λ s t p q.
+        let (one, a) = in_variables_if (w == 1) s p in
+        let (i, less, at) = in_each_below (length parts.symbols) (λ i. applications parts levels w (record { 0 = i })) q in
+        let b = symbol_sound w i t at in
+        let y = (over_sound w (record { 0 = i }) t b).weighs in
+        subst₂ (Earlier parts) (sym a.is) (sym b.is)
+        (variable_earlier parts (record { 0 = a.number }) 0 (record { 0 = i }) b.args (ap (weight parts) (sym b.is) ∙ y ∙ eqb-true w 1 one)))
+
+  level_is : WeighsSomething parts → IsLevel parts (suc n) (level parts levels (suc n))
+  level_is weighs = record { rising = level_rising (suc n); sound = level_sound (suc n); complete = level_complete weighs }
+
+-- All levels
+
+none_weighs_nothing : (parts : SigParts) → WeighsSomething parts → (t : Tree) → IsSchema parts 0 t → In t []
+none_weighs_nothing parts weighs t s = let e = rank_extent parts weighs t in let w = s.weighs in absurd (omega arith)
+
+more_levels : (parts : SigParts) (n : ℕ) (levels : List (List Tree)) (next : List Tree) → AreLevels parts n levels → IsLevel parts (suc n) next
+    → AreLevels parts (suc n) (levels ++ next ∷ [])
+more_levels parts n levels next are is = record {
+  long = let e = are.long in length_push levels next ∙ omega arith;
+  each = λ k within. by k (eq-or-lt_of_le within);
+}
+  where
+    by : (k : ℕ) → (k ≡ suc n) ⊎ (k < suc n) → IsLevel parts k (slice_index_or (levels ++ next ∷ []) k [])
+    by k (inl e) = let long = are.long in let at : length levels ≡ k = omega arith in
+        subst (IsLevel parts k) (sym (get_or_push levels next [] k at)) (subst (λ j. IsLevel parts j next) (sym e) is)
+    by k (inr l) = let long = are.long in
+        subst (IsLevel parts k) (sym (get_or_append_left levels (next ∷ []) [] k (omega arith))) (are.each k (omega arith))
+
+pub levels_are : (parts : SigParts) → WeighsSomething parts → (n : ℕ) → AreLevels parts n (levels_to parts n)
+unfolding levels_to
+levels_are parts weighs zero = record {
+  long = refl;
+  each = λ k within. let e : 0 ≡ k = omega arith in
+    subst (λ j. IsLevel parts j (slice_index_or ([] ∷ []) j [])) e (record { rising = tt; sound = λ t at. elim at [ ]; complete = none_weighs_nothing parts weighs });
+}
+levels_are parts weighs (suc n) =
+    more_levels parts n (levels_to parts n) (level parts (levels_to parts n) (suc n)) (levels_are parts weighs n)
+    (level_is parts n (levels_to parts n) (levels_are parts weighs n) weighs)
