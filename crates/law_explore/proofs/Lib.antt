@@ -4,4 +4,5 @@ pub mod RowFacts
 pub mod Earlier
 pub mod SortFacts
 pub mod SchemaFacts
+pub mod InstanceFacts
 

@@ -59,3 +59,12 @@ rising_places R [] i j x y h less p q = absurd (let f : ⊥ = cc in f)
 rising_places R (z ∷ xs) i zero x y h less p q = absurd (omega arith)
 rising_places {A} R (z ∷ xs) zero (suc j) x y h less p q = let e : z ≡ x = cc in of_each (R x) (at_place y xs j q) (let P : A → Type 0 = λ w. Each (R w) xs in rw (← e) h.0)
 rising_places R (z ∷ xs) (suc i) (suc j) x y h less p q = rising_places R xs i j x y h.1 (omega arith) p q
+
+-- a list is rising where any two of its places say so
+pub rising_from : {A : Type 0} (R : A → A → Type 0) (xs : List A)
+    → ((i j : ℕ) (x y : A) → i < j → slice_get xs i ≡ Some x → slice_get xs j ≡ Some y → R x y) → Rising R xs
+rising_from R [] h = tt
+rising_from R (x ∷ xs) h = (
+  each_of (R x) xs (λ y at. let (n, e) = place_of at in h 0 (suc n) x y (omega arith) refl e),
+  rising_from R xs (λ i j u v less p q. h (suc i) (suc j) u v (omega arith) p q),
+)

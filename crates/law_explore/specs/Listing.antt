@@ -87,6 +87,6 @@ instances_step parts (o.App head lists) = over_each head (choices lists)
 abbrev pub instances : SigParts → Tree → List Tree
 instances parts = fold-Tree (List Tree) (instances_step parts)
 
--- the universe: the instances of each schema, in the order of the schemas
-abbrev pub listing : SigParts → List Tree
-listing parts = flat_map (λ schemas. flat_map (instances parts) schemas) (levels_to parts parts.settings.size)
+-- the instances of the schemas of each weight up to this one, in the order of the schemas
+abbrev pub listing : SigParts → ℕ → List Tree
+listing parts size = flat_map (λ schemas. flat_map (instances parts) schemas) (levels_to parts size)

@@ -1,4 +1,4 @@
-ghost use Rattle.std.specs.Prelude.{◌≡◌, ◌+◌, ◌++◌, ◌∷◌, IfOk, OnOk};
+ghost use Rattle.std.specs.Prelude.{◌≡◌, ◌≤◌, ◌++◌, IfOk, OnOk};
 ghost use Rattle.std.specs.List.{flat_map};
 ghost use Rattle.law_explore.specs.Listing.{variables_of, instances, listing};
 ghost use Rattle.law_explore.specs.Universe.{IsUniverse};
@@ -50,11 +50,12 @@ fn push_instances(alloc: Global, sig: &Sig, found: &mut Seq<Tree>, schemas: &[Tr
     Ok(())
 }
 
-/// The instances of all schemas.
-fn listing(alloc: Global, sig: &Sig) -> Result<Seq<Tree>, NoMemory>
-    ensures { IfOk result (λ found. found ≡ listing sig.now) }
+/// The instances of all schemas up to this weight.
+fn listing(alloc: Global, sig: &Sig, size: u32) -> Result<Seq<Tree>, NoMemory>
+    requires { size ≤ 32 }
+    ensures { IfOk result (λ found. found ≡ listing sig.now size) }
 {
-    let levels = levels(alloc, sig)?;
+    let levels = levels(alloc, sig, size)?;
     let mut found = Seq::new(alloc);
     for schemas in levels.as_slice() {
         push_instances(alloc, sig, &mut found, schemas.as_slice())?;
@@ -66,5 +67,5 @@ fn listing(alloc: Global, sig: &Sig) -> Result<Seq<Tree>, NoMemory>
 pub fn universe(alloc: Global, sig: &Sig) -> Result<Seq<Tree>, NoMemory>
     ensures { IfOk result (λ terms. IsUniverse sig.now terms) }
 {
-    listing(alloc, sig)
+    listing(alloc, sig, sig.settings().size)
 }

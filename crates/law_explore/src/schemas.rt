@@ -160,13 +160,14 @@ fn level(alloc: Global, sig: &Sig, levels: &[Seq<Tree>]) -> Result<Seq<Tree>, No
     Ok(found)
 }
 
-/// The schemas of each weight, from 0 to the greatest that is asked for.
-pub fn levels(alloc: Global, sig: &Sig) -> Result<Seq<Seq<Tree>>, NoMemory>
-    ensures { IfOk result (λ levels. levels ≡ levels_to sig.now sig.now.settings.size) }
+/// The schemas of each weight from 0 to this one.
+pub fn levels(alloc: Global, sig: &Sig, size: u32) -> Result<Seq<Seq<Tree>>, NoMemory>
+    requires { size ≤ 32 }
+    ensures { IfOk result (λ levels. levels ≡ levels_to sig.now size) }
 {
     let mut levels = Seq::new(alloc);
     levels.push(Seq::new(alloc))?;
-    for _made in 0..sig.settings().size {
+    for _made in 0..size {
         let next = level(alloc, sig, levels.as_slice())?;
         levels.push(next)?;
     }
