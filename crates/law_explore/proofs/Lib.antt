@@ -4,5 +4,6 @@ pub mod RowFacts
 pub mod Earlier
 pub mod SortFacts
 pub mod SchemaFacts
+pub mod FirstFacts
 pub mod InstanceFacts
 

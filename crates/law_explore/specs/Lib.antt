@@ -1,3 +1,5 @@
 pub mod Rows
 pub mod Listing
 pub mod Universe
+pub mod Firsts
+pub mod Equations

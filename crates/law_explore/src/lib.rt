@@ -5,5 +5,7 @@ mod list;
 mod rows;
 mod schemas;
 mod explore;
+mod firsts;
 
+pub use firsts::first_same;
 pub use explore::universe;
