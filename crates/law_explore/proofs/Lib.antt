@@ -5,5 +5,7 @@ pub mod Earlier
 pub mod SortFacts
 pub mod SchemaFacts
 pub mod FirstFacts
+pub mod EquationFacts
+pub mod LawFacts
 pub mod InstanceFacts
 

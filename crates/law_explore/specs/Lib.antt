@@ -3,3 +3,4 @@ pub mod Listing
 pub mod Universe
 pub mod Firsts
 pub mod Equations
+pub mod Tells

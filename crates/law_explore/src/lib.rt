@@ -4,8 +4,10 @@
 mod list;
 mod rows;
 mod schemas;
+mod laws;
 mod explore;
 mod firsts;
 
+pub use laws::equations;
 pub use firsts::first_same;
 pub use explore::universe;
