@@ -5,3 +5,10 @@ pub mod Coverage
 pub mod Ranks
 pub mod Orders
 pub mod Descents
+pub mod BodyFacts
+pub mod Application
+pub mod Sorts
+pub mod Derivation
+pub mod Agreement
+pub mod Radix
+pub mod Renaming

@@ -1,5 +1,5 @@
 -- Facts about standing in a list, holding of each item, and lists joined.
-use Rattle.std.proofs.Common.{List, [], ◌∷◌, ◌++◌, ◌⊎◌, map, inl, inr}
+use Rattle.std.proofs.Common.{◌≡◌, refl, ap, List, [], ◌∷◌, ◌++◌, ◌⊎◌, map, inl, inr}
 use Rattle.law_sig.specs.Lists.{In, Each}
 use Rattle.law_sig.specs.Lists.In.{here, there}
 
@@ -42,3 +42,16 @@ in_split {A} {x} (y ∷ xs) ys (there at) = more (in_split xs ys at)
 pub in_map : {A B : Type 0} (f : A → B) {x : A} {xs : List A} → In x xs → In (f x) (map f xs)
 in_map f here = here
 in_map f (there at) = there (in_map f at)
+
+-- a function at each item, around one of them
+pub mapped : {A B : Type 0} (g : A → B) (before after : List A) (s : A) → map g (before ++ s ∷ after) ≡ map g before ++ g s ∷ map g after
+mapped g [] after s = refl
+mapped g (b ∷ before) after s = ap (λ l. g b ∷ l) (mapped g before after s)
+
+-- nothing stands in an empty list, and what stands in any other is its first item or one of the rest
+pub in_none : {A G : Type 0} {x : A} → In x [] → G
+in_none at = elim at [ ]
+
+pub in_rest : {A : Type 0} {a c : A} {cs : List A} → In a (c ∷ cs) → (a ≡ c) ⊎ In a cs
+in_rest here = inl refl
+in_rest (there at) = inr at

@@ -14,6 +14,7 @@ use Rattle.law_sig.specs.declared.tree.Tree.{Tree}
 use Rattle.law_sig.specs.declared.tree.Tree.TheVariants.{Var, App}
 use Rattle.law_sig.specs.declared.parts.SigParts.{SigParts}
 use Rattle.law_laws.proofs.TreeFacts.{tree_induct, tree_cases, weight-Var, weight-App, schema-Var, schema-App, rank-Var, rank-App}
+use Rattle.law_laws.proofs.ListFacts.{mapped}
 use Rattle.law_laws.proofs.Ranks.{Below, Upto, rank_cmp_total, less_below, below_less, equal_same, trichotomy, irreflexive}
 
 -- A rank tells the term
@@ -205,10 +206,6 @@ falls_k parts f before after s t h =
       ap num (app_weight parts f before after s ∙ ap (λ n. n + (weight_at parts f + total (map (weight parts) (before ++ after)))) e ∙ sym (app_weight parts f before after t)),
       inr (refl, inr (refl, row_falls parts before after s t h)),
     )
-
-mapped : {A B : Type 0} (g : A → B) (before after : List A) (s : A) → map g (before ++ s ∷ after) ≡ map g before ++ g s ∷ map g after
-mapped g [] after s = refl
-mapped g (b ∷ before) after s = ap (λ l. g b ∷ l) (mapped g before after s)
 
 schema_around : (f : SymId) (before after : List Tree) (s : Tree)
     → schema_of (App f (before ++ s ∷ after)) ≡ App f (map schema_of before ++ schema_of s ∷ map schema_of after)

@@ -1,2 +1,6 @@
 pub mod Coverage
 pub mod Orders
+pub mod Application
+pub mod Derivation
+pub mod Agreement
+pub mod Renaming

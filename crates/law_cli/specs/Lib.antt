@@ -1,0 +1,4 @@
+pub mod Small
+pub mod Printed
+pub mod Promise
+pub mod Reading

@@ -1,0 +1,10 @@
+//! The top call: all that the program does.
+#![tactic(auto)]
+
+mod input;
+mod plain;
+mod status;
+mod top;
+
+pub use status::{Status, code, status_line};
+pub use top::run;
