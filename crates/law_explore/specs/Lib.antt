@@ -4,3 +4,5 @@ pub mod Universe
 pub mod Firsts
 pub mod Equations
 pub mod Tells
+pub mod Profile
+pub mod Constants

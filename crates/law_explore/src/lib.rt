@@ -5,6 +5,7 @@ mod list;
 mod rows;
 mod schemas;
 mod laws;
+mod constants;
 mod explore;
 mod firsts;
 
