@@ -15,7 +15,7 @@ each_below_more n f = rw add-one refl
 abbrev pub equation_if : Bool → Tree → Tree → List Equation
 equation_if same left right = if same then [] else record { left = left; right = right } ∷ []
 
-test_false : (first at : ℕ) (b : Bool) → (first == at) ≡ b → (first ≡ at → ⊥) → b ≡ false
+pub test_false : (first at : ℕ) (b : Bool) → (first == at) ≡ b → (first ≡ at → ⊥) → b ≡ false
 test_false first at true e other = absurd (other (eqb-true first at e))
 test_false first at false e other = refl
 

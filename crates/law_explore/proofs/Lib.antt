@@ -7,5 +7,7 @@ pub mod SchemaFacts
 pub mod FirstFacts
 pub mod EquationFacts
 pub mod LawFacts
+pub mod Positions
+pub mod ProfileFacts
 pub mod InstanceFacts
 

@@ -1,4 +1,4 @@
-ghost use Rattle.std.specs.Prelude.{◌≡◌, ◌≤◌, map, slice_get, slice_index_or, IfOk};
+ghost use Rattle.std.specs.Prelude.{◌≡◌, ◌≤◌, length, map, slice_get, slice_index_or, IfOk};
 ghost use Rattle.std.specs.Option.{option_copied};
 ghost use Rattle.law_sig.specs.Signature.{symbol_at, width_at};
 ghost use Rattle.law_sig.specs.declared.tree.Tree.TheViews.{out-Tree};
@@ -74,6 +74,7 @@ fn item(values: &[Tree], place: usize) -> Option<&Tree>
 
 /// Where a constructor stands among those of the one sort.
 fn place_of(sig: &Sig, number: u32) -> usize
+    requires { length sig.now.sort_names ≡ 1 }
     ensures { result ≡ place_of sig.now number }
 {
     for (at, own) in sig.constructors(SortId(0)).iter().enumerate() {
@@ -96,6 +97,7 @@ fn argument(args: &[u32], place: u32) -> u32
 
 /// Which case of a function applies.
 fn case_of(sig: &Sig, place: Option<u32>, args: &[u32]) -> usize
+    requires { length sig.now.sort_names ≡ 1 }
     ensures { result ≡ case_of sig.now place args.now }
 {
     match place {
@@ -117,6 +119,7 @@ fn atom(body: &Body, args: &[u32]) -> u32
 
 /// The number of the value that a symbol gives over the values of these numbers.
 fn applied(sig: &Sig, head: SymId, args: &[u32]) -> u32
+    requires { length sig.now.sort_names ≡ 1 }
     ensures { result ≡ applied_number sig.now head (symbol_at sig.now head) args.now }
 {
     match sig.symbol(head) {
@@ -131,6 +134,7 @@ fn applied(sig: &Sig, head: SymId, args: &[u32]) -> u32
 
 /// The number of a term's value at a test.
 fn value(alloc: Global, sig: &Sig, values: &[Tree], test: u64, term: &Tree) -> Result<u32, NoMemory>
+    requires { length sig.now.sort_names ≡ 1 }
     ensures { IfOk result (λ number. number ≡ value sig.now values.now test term.now) }
 {
     match term {
@@ -147,6 +151,7 @@ fn value(alloc: Global, sig: &Sig, values: &[Tree], test: u64, term: &Tree) -> R
 
 /// The numbers of a term's values at so many tests.
 fn vector(alloc: Global, sig: &Sig, values: &[Tree], tests: u64, term: &Tree) -> Result<Vec<u64>, NoMemory>
+    requires { length sig.now.sort_names ≡ 1 }
     ensures { IfOk result (λ found. found.items ≡ vector sig.now values.now tests term.now) }
 {
     let mut found = Vec::new(alloc);
@@ -167,6 +172,7 @@ pub fn vectors(
     tests: u64,
     terms: &[Tree],
 ) -> Result<Vec<Vec<u64>>, NoMemory>
+    requires { length sig.now.sort_names ≡ 1 }
     ensures { IfOk result (λ found. map (λ v. v.items) found.items ≡ map (vector sig.now values.now tests) terms.now) }
 {
     let mut found = Vec::new(alloc);
