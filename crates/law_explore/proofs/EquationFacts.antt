@@ -38,7 +38,7 @@ module _ (terms : List Tree) (firsts : List ℕ) (at : ℕ) (t : Tree) (less : a
   other_place found more left right partner so_far other within is_left is_right stands grows =
       let differs = test_false (get_or firsts at 0) at (get_or firsts at 0 == at) refl other in
       let one : equation_at terms firsts at ≡ equation_if false t (get_or terms (get_or firsts at 0) t)
-          = equation_here ∙ ap (λ b. equation_if b t (get_or terms (get_or firsts at 0) t)) differs in
+      = equation_here ∙ ap (λ b. equation_if b t (get_or terms (get_or firsts at 0) t)) differs in
       let partner_is : right ≡ get_or terms (get_or firsts at 0) t = is_right ∙ stands ∙ get_or_default terms (get_or firsts at 0) partner t within in
       grows ∙ ap (λ l. l ++ record { left = left; right = right } ∷ []) so_far
       ∙ ap₂ (λ l r. each_below at (equation_at terms firsts) ++ equation_if false l r) is_left partner_is

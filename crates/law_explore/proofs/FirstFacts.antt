@@ -36,9 +36,9 @@ module _ (vectors : List (List ℕ)) (at : ℕ) where
   stays : (o : Option ℕ) (items : List ℕ) → MatchOption o (None_before at items) (First_before at items)
       → (None_before at items → slice_get vectors at ≡ Some items → ⊥) → MatchOption o (None_before (at + 1) items) (First_before (at + 1) items)
   stays None items none other = λ k less e. elim (cases_lt k at) [
-        inl l ↦ none k l e
-      | inr l ↦ let is : k ≡ at = omega arith in other none (subst (λ j. slice_get vectors j ≡ Some items) is e)
-      ]
+    | inl l ↦ none k l e
+    | inr l ↦ let is : k ≡ at = omega arith in other none (subst (λ j. slice_get vectors j ≡ Some items) is e)
+  ]
   stays (Some first) items known other = (let less = known.0 in omega arith, known.1, known.2)
 
   module _ (old new : Vec ℕ Global → Option ℕ) (v : Vec ℕ Global) (first : ℕ) (here : slice_get vectors at ≡ Some v.items) where
@@ -46,12 +46,15 @@ module _ (vectors : List (List ℕ)) (at : ℕ) where
     Step = KnowsBefore vectors (at + 1) new × IsFirstSame vectors at first
 
     noted_new : None_before at v.items → first ≡ at → ((w : Vec ℕ Global) → new w ≡ (if same_items v w then Some at else old w)) → KnowsBefore vectors at old → Step
-    noted_new none is new_is known = (λ w. of w (same_items v w) refl (new_is w), record {
-      vector = v.items;
-      here = here;
-      there = subst (λ k. slice_get vectors k ≡ Some v.items) (sym is) here;
-      least = λ k e. elim (cases_lt k at) [ inl l ↦ absurd (none k l e) | inr l ↦ omega arith ];
-    })
+    noted_new none is new_is known = (
+      λ w. of w (same_items v w) refl (new_is w),
+      record {
+        vector = v.items;
+        here = here;
+        there = subst (λ k. slice_get vectors k ≡ Some v.items) (sym is) here;
+        least = λ k e. elim (cases_lt k at) [ inl l ↦ absurd (none k l e) | inr l ↦ omega arith ];
+      },
+    )
       where
         of : (w : Vec ℕ Global) (b : Bool) → same_items v w ≡ b → new w ≡ (if b then Some at else old w)
             → MatchOption (new w) (None_before (at + 1) w.items) (First_before (at + 1) w.items)
@@ -59,23 +62,26 @@ module _ (vectors : List (List ℕ)) (at : ℕ) where
             let items : v.items ≡ w.items = (bytes_decides v.items w.items).0 same in
             subst (λ o. MatchOption o (None_before (at + 1) w.items) (First_before (at + 1) w.items)) (sym e)
             (let less : at < at + 1 = omega arith in
-              (less, here ∙ ap Some items, λ k d. elim (cases_lt k at) [ inl l ↦ absurd (none k l (d ∙ ap Some (sym items))) | inr l ↦ l ]))
+            (less, here ∙ ap Some items, λ k d. elim (cases_lt k at) [ inl l ↦ absurd (none k l (d ∙ ap Some (sym items))) | inr l ↦ l ]))
         of w false other e = subst (λ o. MatchOption o (None_before (at + 1) w.items) (First_before (at + 1) w.items)) (sym e)
             (stays (old w) w.items (known w)
-              (λ none_too d. let items : v.items ≡ w.items = some_is (sym here ∙ d) in
-                let same = (bytes_decides v.items w.items).1 items in cc))
+            (λ none_too d. let items : v.items ≡ w.items = some_is (sym here ∙ d) in
+            let same = (bytes_decides v.items w.items).1 items in cc))
           where
             some_is : {x y : List ℕ} → Some x ≡ Some y → x ≡ y
             some_is e = cc
 
     noted_again : (place : ℕ) → First_before at v.items place → first ≡ place → ((w : Vec ℕ Global) → new w ≡ old w) → KnowsBefore vectors at old → Step
-    noted_again place found is new_is known = (λ w. subst (λ o. MatchOption o (None_before (at + 1) w.items) (First_before (at + 1) w.items)) (sym (new_is w))
-        (stays (old w) w.items (known w) (λ none d. none place found.0 (found.1 ∙ sym here ∙ d))), record {
-      vector = v.items;
-      here = here;
-      there = subst (λ k. slice_get vectors k ≡ Some v.items) (sym is) found.1;
-      least = λ k e. let l = found.2 k e in omega arith;
-    })
+    noted_again place found is new_is known = (
+      λ w. subst (λ o. MatchOption o (None_before (at + 1) w.items) (First_before (at + 1) w.items)) (sym (new_is w))
+          (stays (old w) w.items (known w) (λ none d. none place found.0 (found.1 ∙ sym here ∙ d))),
+      record {
+        vector = v.items;
+        here = here;
+        there = subst (λ k. slice_get vectors k ≡ Some v.items) (sym is) found.1;
+        least = λ k e. let l = found.2 k e in omega arith;
+      },
+    )
 
     noted : KnowsBefore vectors at old → IsNoted old new v at first → Step
     noted known is = by (old v) (known v) is
@@ -96,9 +102,9 @@ one_more vectors at old new v first firsts more here known so_far is grows =
   where
     of : IsFirstSame vectors at first → (k f : ℕ) → slice_get (firsts ++ first ∷ []) k ≡ Some f → IsFirstSame vectors k f
     of one k f e = elim (get_push firsts first f k e) [
-          inl h ↦ so_far.each k f h
-        | inr h ↦ subst₂ (IsFirstSame vectors) (sym (h.0 ∙ so_far.so_many)) h.1 one
-        ]
+      | inl h ↦ so_far.each k f h
+      | inr h ↦ subst₂ (IsFirstSame vectors) (sym (h.0 ∙ so_far.so_many)) h.1 one
+    ]
 
 -- none so far
 pub none_yet : (vectors : List (List ℕ)) → FirstsTo vectors 0 []

@@ -49,7 +49,7 @@ pub schema_sort : (parts : SigParts) (t : Tree) → sort_of parts (schema_of t) 
 schema_sort parts = tree_induct (λ t. sort_of parts (schema_of t) ≡ sort_of parts t)
     (λ s i. ap (sort_of parts) (schema-Var s i) ∙ sort-Var parts s 0 ∙ sym (sort-Var parts s i))
     (λ f args have. ap (sort_of parts) (schema-App f args) ∙ sort-App parts f (map schema_of args)
-      ∙ ap (sort_over (symbol_at parts f)) (all args have) ∙ sym (sort-App parts f args))
+    ∙ ap (sort_over (symbol_at parts f)) (all args have) ∙ sym (sort-App parts f args))
   where
     all : (ts : List Tree) → Each (λ t. sort_of parts (schema_of t) ≡ sort_of parts t) ts → map (sort_of parts) (map schema_of ts) ≡ map (sort_of parts) ts
     all [] have = refl
@@ -59,10 +59,10 @@ schema_sort parts = tree_induct (λ t. sort_of parts (schema_of t) ≡ sort_of p
 pub schema_bounded : (parts : SigParts) (t : Tree) → is_bounded parts t ≡ true → is_bounded parts (schema_of t) ≡ true
 schema_bounded parts = tree_induct (λ t. is_bounded parts t ≡ true → is_bounded parts (schema_of t) ≡ true)
     (λ s i e. let below = ltb-true i (vars_at parts s) (sym (bounded-Var parts s i) ∙ e) in
-      ap (is_bounded parts) (schema-Var s i) ∙ bounded-Var parts s 0 ∙ lt-ltb 0 (vars_at parts s) (omega arith))
+    ap (is_bounded parts) (schema-Var s i) ∙ bounded-Var parts s 0 ∙ lt-ltb 0 (vars_at parts s) (omega arith))
     (λ f args have e.
-      let (explored, bounded) = both (is_explored parts f) (list_all (λ inside. inside) (map (is_bounded parts) args)) (sym (bounded-App parts f args) ∙ e) in
-      ap (is_bounded parts) (schema-App f args) ∙ bounded-App parts f (map schema_of args) ∙ both_true explored (all args have bounded))
+    let (explored, bounded) = both (is_explored parts f) (list_all (λ inside. inside) (map (is_bounded parts) args)) (sym (bounded-App parts f args) ∙ e) in
+    ap (is_bounded parts) (schema-App f args) ∙ bounded-App parts f (map schema_of args) ∙ both_true explored (all args have bounded))
   where
     all : (ts : List Tree) → Each (λ t. is_bounded parts t ≡ true → is_bounded parts (schema_of t) ≡ true) ts
         → list_all (λ inside. inside) (map (is_bounded parts) ts) ≡ true → list_all (λ inside. inside) (map (is_bounded parts) (map schema_of ts)) ≡ true
@@ -123,18 +123,18 @@ in_instances parts = tree_induct (λ schema. (t : Tree) → In t (instances part
         record {
           shape = ap schema_of is ∙ schema-App f row ∙ ap (App f) are.shape ∙ sym (schema-App f args);
           bounded = λ e. let (p, q) = both (is_explored parts f) (list_all (λ inside. inside) (map (is_bounded parts) args)) (sym (bounded-App parts f args) ∙ e) in
-            ap (is_bounded parts) is ∙ bounded-App parts f row ∙ both_true p (are.bounded q);
+              ap (is_bounded parts) is ∙ bounded-App parts f row ∙ both_true p (are.bounded q);
         }
 
 -- a bounded term is an instance of its schema
 instances_in : (parts : SigParts) (t : Tree) → is_bounded parts t ≡ true → In t (instances parts (schema_of t))
 instances_in parts = tree_induct (λ t. is_bounded parts t ≡ true → In t (instances parts (schema_of t)))
     (λ s i e. subst (In (Var s i)) (sym (ap (instances parts) (schema-Var s i) ∙ instances-Var parts s 0))
-      (each_below_in (vars_at parts s) (λ j. Var s j ∷ []) i (ltb-true i (vars_at parts s) (sym (bounded-Var parts s i) ∙ e)) here))
+    (each_below_in (vars_at parts s) (λ j. Var s j ∷ []) i (ltb-true i (vars_at parts s) (sym (bounded-Var parts s i) ∙ e)) here))
     (λ f args have e.
-      let (explored, bounded) = both (is_explored parts f) (list_all (λ inside. inside) (map (is_bounded parts) args)) (sym (bounded-App parts f args) ∙ e) in
-      subst (In (App f args)) (sym (ap (instances parts) (schema-App f args) ∙ instances-App parts f (map schema_of args)))
-      (in_map (App f) (choices_in (map (instances parts) (map schema_of args)) args (all args have bounded))))
+    let (explored, bounded) = both (is_explored parts f) (list_all (λ inside. inside) (map (is_bounded parts) args)) (sym (bounded-App parts f args) ∙ e) in
+    subst (In (App f args)) (sym (ap (instances parts) (schema-App f args) ∙ instances-App parts f (map schema_of args)))
+    (in_map (App f) (choices_in (map (instances parts) (map schema_of args)) args (all args have bounded))))
   where
     all : (ts : List Tree) → Each (λ t. is_bounded parts t ≡ true → In t (instances parts (schema_of t))) ts
         → list_all (λ inside. inside) (map (is_bounded parts) ts) ≡ true → AllIn ts (map (instances parts) (map schema_of ts))
@@ -151,12 +151,12 @@ same_weight parts schema s t p q =
 instances_rising : (parts : SigParts) (schema : Tree) → Rising (Earlier parts) (instances parts schema)
 instances_rising parts = tree_induct (λ schema. Rising (Earlier parts) (instances parts schema))
     (λ s i. subst (Rising (Earlier parts)) (sym (instances-Var parts s i))
-      (each_below_rising (Earlier parts) (vars_at parts s) (λ j. Var s j ∷ []) (λ k less. (tt, tt))
-        (λ j k less within x y p q. subst₂ (Earlier parts) (sym (only p)) (sym (only q)) (index_earlier parts s j k less))))
+    (each_below_rising (Earlier parts) (vars_at parts s) (λ j. Var s j ∷ []) (λ k less. (tt, tt))
+    (λ j k less within x y p q. subst₂ (Earlier parts) (sym (only p)) (sym (only q)) (index_earlier parts s j k less))))
     (λ f args have. subst (Rising (Earlier parts)) (sym (instances-App parts f args))
-      (rising_map (Lex (Earlier parts)) (Earlier parts) (App f) (choices (map (instances parts) args))
-        (λ x y p q h. rows_earlier parts f x y (same_weight parts (App f args) (App f x) (App f y) (over f args x p) (over f args y q)) h)
-        (choices_rising (Earlier parts) (map (instances parts) args) (all args have))))
+    (rising_map (Lex (Earlier parts)) (Earlier parts) (App f) (choices (map (instances parts) args))
+    (λ x y p q h. rows_earlier parts f x y (same_weight parts (App f args) (App f x) (App f y) (over f args x p) (over f args y q)) h)
+    (choices_rising (Earlier parts) (map (instances parts) args) (all args have))))
   where
     only : {t s : Tree} → In t (s ∷ []) → t ≡ s
     only here = refl
@@ -174,9 +174,9 @@ instances_rising parts = tree_induct (λ schema. Rising (Earlier parts) (instanc
 in_flat_map : {A B : Type 0} (f : A → List B) (xs : List A) {y : B} → In y (flat_map f xs) → (x : A) × In x xs × In y (f x)
 in_flat_map f [] at = elim at [ ]
 in_flat_map f (x ∷ xs) at = elim (in_split (f x) (flat_map f xs) at) [
-      inl h ↦ (x, here, h)
-    | inr h ↦ let (z, p, q) = in_flat_map f xs h in (z, there p, q)
-    ]
+  | inl h ↦ (x, here, h)
+  | inr h ↦ let (z, p, q) = in_flat_map f xs h in (z, there p, q)
+]
 
 flat_map_in : {A B : Type 0} (f : A → List B) {x : A} {xs : List A} {y : B} → In x xs → In y (f x) → In y (flat_map f xs)
 flat_map_in f here q = in_left _ q
@@ -230,19 +230,19 @@ module _ (parts : SigParts) (levels : List (List Tree)) (are : AreLevels parts p
   levels_lighter : Rising (λ ss ts. (s t : Tree) → In s ss → In t ts → weight parts s < weight parts t) levels
   levels_lighter = rising_from (λ ss ts. (s t : Tree) → In s ss → In t ts → weight parts s < weight parts t) levels
       (λ i j ss ts less e d s t p q.
-        let a = (schema_in ss (one_at ss i e) s p).weighs in
-        let b = (schema_in ts (one_at ts j d) t q).weighs in
-        omega arith)
+      let a = (schema_in ss (one_at ss i e) s p).weighs in
+      let b = (schema_in ts (one_at ts j d) t q).weighs in
+      omega arith)
 
   all_rising : Rising (IsBefore parts) (flat_map (λ schemas. flat_map (instances parts) schemas) levels)
   all_rising = flat_map_rising (λ ss ts. (s t : Tree) → In s ss → In t ts → weight parts s < weight parts t) (IsBefore parts) (λ schemas. flat_map (instances parts) schemas) levels levels_lighter
       (λ ts at. let (n, e) = place_of at in level_instances_rising ts (one_at ts n e))
       (λ ss ts p q less s t r u.
-        let (c, at_c, in_c) = in_flat_map (instances parts) ss r in
-        let (d, at_d, in_d) = in_flat_map (instances parts) ts u in
-        let (i, e) = place_of p in
-        let (j, f) = place_of q in
-        before_across parts c d (schema_in ss (one_at ss i e) c at_c).flat (schema_in ts (one_at ts j f) d at_d).flat (lighter parts c d (less c d at_c at_d)) s t in_c in_d)
+      let (c, at_c, in_c) = in_flat_map (instances parts) ss r in
+      let (d, at_d, in_d) = in_flat_map (instances parts) ts u in
+      let (i, e) = place_of p in
+      let (j, f) = place_of q in
+      before_across parts c d (schema_in ss (one_at ss i e) c at_c).flat (schema_in ts (one_at ts j f) d at_d).flat (lighter parts c d (less c d at_c at_d)) s t in_c in_d)
 
   all_sound : (t : Tree) → In t (flat_map (λ schemas. flat_map (instances parts) schemas) levels) → (sort : SortId) × InU parts sort t
   all_sound t at =
@@ -253,12 +253,14 @@ module _ (parts : SigParts) (levels : List (List Tree)) (are : AreLevels parts p
       let s = schema_in ts one c at_c in
       let instance = in_instances parts c t in_c in
       let weighs = sym (schema_weight parts t) ∙ ap (weight parts) (instance.shape ∙ s.flat) ∙ s.weighs in
-      let within = one.within in
-      (s.sort, record {
-        sorted = sym (schema_sort parts t) ∙ ap (sort_of parts) (instance.shape ∙ s.flat) ∙ s.sorted;
-        bounded = instance.bounded s.bounded;
-        small = omega arith;
-      })
+      let within = one.within in (
+        s.sort,
+        record {
+          sorted = sym (schema_sort parts t) ∙ ap (sort_of parts) (instance.shape ∙ s.flat) ∙ s.sorted;
+          bounded = instance.bounded s.bounded;
+          small = omega arith;
+        },
+      )
 
   all_complete : (t : Tree) → (sort : SortId) × InU parts sort t → In t (flat_map (λ schemas. flat_map (instances parts) schemas) levels)
   all_complete t (sort, u) =

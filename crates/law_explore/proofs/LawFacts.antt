@@ -63,7 +63,7 @@ equation_in : (terms : List Tree) (firsts : List ℕ) (at : ℕ) (e : Equation) 
 equation_in terms firsts at e i =
     subst₂ (λ o q. In e (equation_of terms at o q)) (sym i.here_is) (sym i.first_is)
     (subst (λ d. In d (equation_of terms at (Some i.term) (Some i.first))) (sym i.is)
-      (if_in (i.first == at) (record { left = i.term; right = get_or terms i.first i.term }) (differ (i.first == at) refl)))
+    (if_in (i.first == at) (record { left = i.term; right = get_or terms i.first i.term }) (differ (i.first == at) refl)))
   where
     differ : (b : Bool) → (i.first == at) ≡ b → (i.first == at) ≡ false
     differ true s = absurd (i.other (eqb-true i.first at s))
@@ -119,13 +119,13 @@ module _ (parts : SigParts) (pools : Pools) (terms : List Tree) (vector : Tree �
         bounded = record { sorted = sym sorts ∙ sorted; bounded = u.bounded; small = u.small };
         same = same;
         least = λ w w_in w_same.
-          let w_at = (universe.members w).1 (sort, w_in) in
-          let (k, w_is) = place_of w_at in
-          let lowest = h.lowest k w w_is ((tells t w (at_place t terms at e) w_at).1 (sorted ∙ sym w_in.sorted, w_same)) in
-          elim (eq-or-lt_of_le lowest) [
-            inl s ↦ inl (some_is (sym w_is ∙ ap (slice_get terms) (sym s) ∙ h.there_is))
-          | inr less ↦ inr (rising_places (IsBefore parts) terms h.first k h.partner w universe.ordered less h.there_is w_is)
-          ];
+            let w_at = (universe.members w).1 (sort, w_in) in
+            let (k, w_is) = place_of w_at in
+            let lowest = h.lowest k w w_is ((tells t w (at_place t terms at e) w_at).1 (sorted ∙ sym w_in.sorted, w_same)) in
+            elim (eq-or-lt_of_le lowest) [
+              | inl s ↦ inl (some_is (sym w_is ∙ ap (slice_get terms) (sym s) ∙ h.there_is))
+              | inr less ↦ inr (rising_places (IsBefore parts) terms h.first k h.partner w universe.ordered less h.there_is w_is)
+            ];
       }
 
   -- each term of the universe has a least one
@@ -145,22 +145,22 @@ module _ (parts : SigParts) (pools : Pools) (terms : List Tree) (vector : Tree �
       let lowest = h.lowest at i.term i.here_is refl in
       let other = i.other in
       let apart : i.term ≡ h.partner → ⊥ = λ s. elim (eq-or-lt_of_le lowest) [
-            inl same ↦ other (sym first ∙ same)
-          | inr less ↦ never_before_itself parts i.term
+        | inl same ↦ other (sym first ∙ same)
+        | inr less ↦ never_before_itself parts i.term
             (subst (λ p. IsBefore parts p i.term) (sym s) (rising_places (IsBefore parts) terms h.first at h.partner i.term universe.ordered less h.there_is i.here_is))
-          ] in
+      ] in
       subst (IsListed parts pools) (sym (i.is ∙ ap (λ r. record { left = i.term; right = r }) right))
       (record { sort = sort; bounded = t_in; least = is_least sort at i.term i.here_is t_in.sorted h; other = apart })
 
   -- a term has one least term
   one_least : (sort : SortId) (t u w : Tree) → IsLeast parts pools sort t u → IsLeast parts pools sort t w → u ≡ w
   one_least sort t u w a b = elim (a.least w b.bounded b.same) [
-        inl e ↦ sym e
-      | inr less ↦ elim (b.least u a.bounded a.same) [
-          inl e ↦ e
-        | inr more ↦ absurd (never_before_itself parts u (before_chain parts u w u less more))
-        ]
-      ]
+    | inl e ↦ sym e
+    | inr less ↦ elim (b.least u a.bounded a.same) [
+      | inl e ↦ e
+      | inr more ↦ absurd (never_before_itself parts u (before_chain parts u w u less more))
+    ]
+  ]
 
   found : (e : Equation) → IsListed parts pools e → In e (equations terms firsts)
   found e l =
@@ -187,8 +187,8 @@ module _ (parts : SigParts) (pools : Pools) (terms : List Tree) (vector : Tree �
       found e,
     );
     ordered = each_below_rising (λ (d e : Equation). IsBefore parts d.left e.left) (length terms) (equation_at terms firsts)
-      (λ k less. equation_rising (λ (d e : Equation). IsBefore parts d.left e.left) terms firsts k)
-      (λ j k less within d e p q.
+        (λ k less. equation_rising (λ (d e : Equation). IsBefore parts d.left e.left) terms firsts k)
+        (λ j k less within d e p q.
         let a = in_equation terms firsts j d p in
         let b = in_equation terms firsts k e q in
         subst₂ (IsBefore parts) (sym (ap (λ (x : Equation). x.left) a.is)) (sym (ap (λ (x : Equation). x.left) b.is))

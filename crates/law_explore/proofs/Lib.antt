@@ -9,5 +9,6 @@ pub mod EquationFacts
 pub mod LawFacts
 pub mod Positions
 pub mod ProfileFacts
+pub mod ValueFacts
+pub mod PlainFacts
 pub mod InstanceFacts
-

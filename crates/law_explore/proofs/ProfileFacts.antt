@@ -221,7 +221,7 @@ module _ (parts : SigParts) (well : IsWellFormed parts) (profile : IsFirstProfil
       let same = only sort (of_each (IsDeclared parts) (at_place sort fun.args place arg_is) declared) in
       let own : SymId = record { 0 = get_or numbers place 0 } in
       let h = has_case parts (P place) (constructors parts only_sort) fun.cases (subst (λ s. AreCases parts (P place) (constructors parts s) fun.cases) same cases)
-          own (among (get_or numbers place 0) i) 0 in
+      own (among (get_or numbers place 0) i) 0 in
       let k = h.at in
       let at : 0 + h.at ≡ h.at = omega arith in
       let position : position_from (same_symbol own) 0 (constructors parts only_sort) ≡ Some h.at = h.found ∙ ap Some at in
@@ -281,11 +281,12 @@ module _ (parts : SigParts) (well : IsWellFormed parts) (profile : IsFirstProfil
       let r = subst (λ o. IsResult f numbers (applied_number parts f o numbers)) (sym e) (result_is f symbol numbers e long each) in
       let small = r.small in
       let enough = profile.budget in
-      let low : r.cost ≤ parts.settings.budget = omega arith in
-      (ap (option_map (λ (m : Made). m.value))
-        (ap (within parts.settings.budget) (applies_is parts r.applies parts.settings.budget low)
-          ∙ is_within parts.settings.budget (record { value = constant (applied_number parts f (symbol_at parts f) numbers); cost = r.cost }) low),
-        r.number)
+      let low : r.cost ≤ parts.settings.budget = omega arith in (
+        ap (option_map (λ (m : Made). m.value))
+            (ap (within parts.settings.budget) (applies_is parts r.applies parts.settings.budget low)
+            ∙ is_within parts.settings.budget (record { value = constant (applied_number parts f (symbol_at parts f) numbers); cost = r.cost }) low),
+        r.number,
+      )
 
   -- Values
 
@@ -299,13 +300,13 @@ module _ (parts : SigParts) (well : IsWellFormed parts) (profile : IsFirstProfil
   value_is sort v is = tree_cases (λ t. fold-Tree Bool (value_step parts) t ≡ true → sort_of parts t ≡ Some sort → (t ≡ constant (number_of (out-Tree t))) × IsNumber (number_of (out-Tree t)))
       (λ s i made sorted. let e = sym (fold-Var Bool (value_step parts) s i) ∙ made in cc)
       (λ f args made sorted.
-        let (c, rest) = both (is_constructor (symbol_at parts f)) (list_all (λ m. m) (map (fold-Tree Bool (value_step parts)) args)) (sym (fold-App Bool (value_step parts) f args) ∙ made) in
-        let (con, con_is) = is_con (symbol_at parts f) c in
-        let a = sorted_app parts f args sort sorted in
-        let same : a.symbol ≡ sym_is.Con con = some_is (sym a.declared ∙ con_is) in
-        let bare : args ≡ [] = no_sorts args (args_of a.symbol) (ap args_of same ∙ constant_at f (sym_is.Con con) con_is) a.sorts in
-        let number : f.0 ≡ number_of (out-Tree (App f args)) = sym (ap number_of (outs-App f args)) in
-        (ap (App f) bare ∙ ap constant number, subst IsNumber number (record { con = con; declared = con_is })))
+      let (c, rest) = both (is_constructor (symbol_at parts f)) (list_all (λ m. m) (map (fold-Tree Bool (value_step parts)) args)) (sym (fold-App Bool (value_step parts) f args) ∙ made) in
+      let (con, con_is) = is_con (symbol_at parts f) c in
+      let a = sorted_app parts f args sort sorted in
+      let same : a.symbol ≡ sym_is.Con con = some_is (sym a.declared ∙ con_is) in
+      let bare : args ≡ [] = no_sorts args (args_of a.symbol) (ap args_of same ∙ constant_at f (sym_is.Con con) con_is) a.sorts in
+      let number : f.0 ≡ number_of (out-Tree (App f args)) = sym (ap number_of (outs-App f args)) in
+      (ap (App f) bare ∙ ap constant number, subst IsNumber number (record { con = con; declared = con_is })))
       v is.made is.sorted
     where
       some_is : {x y : Sym} → Some x ≡ Some y → x ≡ y

@@ -14,17 +14,17 @@ use Rattle.law_explore.proofs.Rising.{map_in, rising_append, rising_map}
 pub in_each_below : {A : Type 0} (n : ℕ) (f : ℕ → List A) {x : A} → In x (each_below n f) → (k : ℕ) × (k < n) × In x (f k)
 in_each_below zero f at = elim at [ ]
 in_each_below (suc n) f at = elim (in_split (each_below n f) (f n) at) [
-      inl h ↦ let (k, less, p) = in_each_below n f h in (k, omega arith, p)
-    | inr h ↦ (n, omega arith, h)
-    ]
+  | inl h ↦ let (k, less, p) = in_each_below n f h in (k, omega arith, p)
+  | inr h ↦ (n, omega arith, h)
+]
 
 pub each_below_in : {A : Type 0} (n : ℕ) (f : ℕ → List A) (k : ℕ) {x : A} → k < n → In x (f k) → In x (each_below n f)
 each_below_in zero f k less at = absurd (omega arith)
 each_below_in {A} (suc n) f k {x} less at =
     let upto : k ≤ n = omega arith in
     elim (eq-or-lt_of_le upto) [
-      inl e ↦ in_right (each_below n f) (subst (λ j. In x (f j)) e at)
-    | inr l ↦ in_left (f n) (each_below_in n f k l at)
+      | inl e ↦ in_right (each_below n f) (subst (λ j. In x (f j)) e at)
+      | inr l ↦ in_left (f n) (each_below_in n f k l at)
     ]
 
 pub each_below_rising : {A : Type 0} (R : A → A → Type 0) (n : ℕ) (f : ℕ → List A) → ((k : ℕ) → k < n → Rising R (f k))
@@ -42,9 +42,9 @@ pub in_crossed : {A : Type 0} (xs : List A) (rows : List (List A)) {row : List A
     → (x : A) × (rest : List A) × In x xs × In rest rows × (row ≡ x ∷ rest)
 in_crossed [] rows at = elim at [ ]
 in_crossed (x ∷ xs) rows at = elim (in_split (map (λ r. x ∷ r) rows) (crossed xs rows) at) [
-      inl h ↦ let (rest, p, e) = map_in (λ r. x ∷ r) rows h in (x, rest, here, p, e)
-    | inr h ↦ let (y, rest, p, q, e) = in_crossed xs rows h in (y, rest, there p, q, e)
-    ]
+  | inl h ↦ let (rest, p, e) = map_in (λ r. x ∷ r) rows h in (x, rest, here, p, e)
+  | inr h ↦ let (y, rest, p, q, e) = in_crossed xs rows h in (y, rest, there p, q, e)
+]
 
 pub crossed_in : {A : Type 0} {x : A} {xs : List A} (rest : List A) (rows : List (List A)) → In x xs → In rest rows → In (x ∷ rest) (crossed xs rows)
 crossed_in {A} {x} rest rows here q = in_left _ (in_map (λ (r : List A). x ∷ r) q)
@@ -58,9 +58,9 @@ crossed_rising {A} R (x ∷ xs) rows h k =
     (rising_map (Lex R) (Lex R) (λ (r : List A). x ∷ r) rows (λ r s p q l. inr (refl, l)) k)
     (crossed_rising R xs rows h.1 k)
     (λ a b p q.
-      let (r, at_r, e) = map_in (λ (r : List A). x ∷ r) rows p in
-      let (y, s, at_y, at_s, d) = in_crossed xs rows q in
-      subst₂ (Lex R) (sym e) (sym d) (inl (of_each (R x) at_y h.0)))
+    let (r, at_r, e) = map_in (λ (r : List A). x ∷ r) rows p in
+    let (y, s, at_y, at_s, d) = in_crossed xs rows q in
+    subst₂ (Lex R) (sym e) (sym d) (inl (of_each (R x) at_y h.0)))
 
 -- Choices
 
@@ -145,6 +145,6 @@ module _ {A K : Type 0} (items : ℕ → K → List A) where
       each_below_rising (Lex R) (n + 1) (λ k. crossed (items k kind) (rows_of items kinds (n - k)))
       (λ k less. crossed_rising R (items k kind) (rows_of items kinds (n - k)) (own k kind) (rows_rising R own across kinds (n - k)))
       (λ j k less within a b p q.
-        let (x, r, at_x, at_r, e) = in_crossed (items j kind) (rows_of items kinds (n - j)) p in
-        let (y, s, at_y, at_s, d) = in_crossed (items k kind) (rows_of items kinds (n - k)) q in
-        subst₂ (Lex R) (sym e) (sym d) (inl (across j k kind less x y at_x at_y)))
+      let (x, r, at_x, at_r, e) = in_crossed (items j kind) (rows_of items kinds (n - j)) p in
+      let (y, s, at_y, at_s, d) = in_crossed (items k kind) (rows_of items kinds (n - k)) q in
+      subst₂ (Lex R) (sym e) (sym d) (inl (across j k kind less x y at_x at_y)))

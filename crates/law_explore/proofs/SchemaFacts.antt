@@ -72,9 +72,9 @@ in_of_sort : (parts : SigParts) (sort : SortId) (ts : List Tree) {t : Tree} → 
     → In t ts × (heads_sort parts sort (out-Tree t) ≡ true)
 in_of_sort parts sort [] at = elim at [ ]
 in_of_sort parts sort (x ∷ ts) {t} at = elim (in_kept (heads_sort parts sort (out-Tree x)) x (of_sort parts sort ts) at) [
-      inl h ↦ (subst (λ y. In y (x ∷ ts)) (sym h.0) here, ap (λ y. heads_sort parts sort (out-Tree y)) h.0 ∙ h.1)
-    | inr h ↦ let (p, e) = in_of_sort parts sort ts h in (there p, e)
-    ]
+  | inl h ↦ (subst (λ y. In y (x ∷ ts)) (sym h.0) here, ap (λ y. heads_sort parts sort (out-Tree y)) h.0 ∙ h.1)
+  | inr h ↦ let (p, e) = in_of_sort parts sort ts h in (there p, e)
+]
 
 of_sort_in : (parts : SigParts) (sort : SortId) {t : Tree} {ts : List Tree} → In t ts → heads_sort parts sort (out-Tree t) ≡ true → In t (of_sort parts sort ts)
 of_sort_in parts sort {t} here e = kept_first (heads_sort parts sort (out-Tree t)) t _ e
@@ -93,9 +93,9 @@ module _ (parts : SigParts) (n : ℕ) (levels : List (List Tree)) (are : AreLeve
   items_sound k sort t at =
       let (p, headed) = in_of_sort parts sort (slice_index_or levels k []) at in
       elim (cases_lt n k) [
-        inl above ↦ let long = are.long in let past : length levels ≤ k = omega arith in
-          let none : slice_index_or levels k [] ≡ [] = get_or_past levels k [] past in elim (subst (In t) none p) [ ]
-      | inr within ↦ found (((are.each k within).sound) t p) headed
+        | inl above ↦ let long = are.long in let past : length levels ≤ k = omega arith in
+            let none : slice_index_or levels k [] ≡ [] = get_or_past levels k [] past in elim (subst (In t) none p) [ ]
+        | inr within ↦ found (((are.each k within).sound) t p) headed
       ]
     where
       found : IsSchema parts k t → heads_sort parts sort (out-Tree t) ≡ true → IsSchema parts k t × (sort_of parts t ≡ Some sort)
@@ -157,9 +157,12 @@ module _ (parts : SigParts) (n : ℕ) (levels : List (List Tree)) (are : AreLeve
       let sorted : sort_of parts t ≡ Some s = has_is (sort_of parts t) s has in
       let w = a.weighs in
       let flat = a.flat in
-      let one : IsSchema parts (weight parts t) t = record { sort = s; sorted = sorted; bounded = is; flat = cc; weighs = refl } in
-      (weight parts t, omega arith, items_complete (weight parts t) s t (omega arith) one sorted,
-        args_complete ss (m - weight parts t) ts (omega arith) (record { same = have; weighs = omega arith; bounded = are; flat = cc }))
+      let one : IsSchema parts (weight parts t) t = record { sort = s; sorted = sorted; bounded = is; flat = cc; weighs = refl } in (
+        weight parts t,
+        omega arith,
+        items_complete (weight parts t) s t (omega arith) one sorted,
+        args_complete ss (m - weight parts t) ts (omega arith) (record { same = have; weighs = omega arith; bounded = are; flat = cc }),
+      )
 
   -- Applications
 
@@ -199,7 +202,7 @@ module _ (parts : SigParts) (n : ℕ) (levels : List (List Tree)) (are : AreLeve
   over_sound : (w : ℕ) (f : SymId) (t : Tree) → IsOver w f (symbol_at parts f) t → IsSchema parts w t
   over_sound w f t a =
       let r = args_sound (args_of a.symbol) (w - weight_at parts f) a.args
-          (in_rows (of_weight parts levels) (args_of a.symbol) (w - weight_at parts f) a.args a.row) in
+      (in_rows (of_weight parts levels) (args_of a.symbol) (w - weight_at parts f) a.args a.row) in
       let enough = a.enough in
       let ws = r.weighs in
       let wt = weight-App parts f a.args in
@@ -228,7 +231,7 @@ module _ (parts : SigParts) (n : ℕ) (levels : List (List Tree)) (are : AreLeve
         args = args;
         row = rows_in (of_weight parts levels) (args_of a.symbol) (suc n - weight_at parts f) args
             (args_complete (args_of a.symbol) (suc n - weight_at parts f) args (omega arith)
-              (record { same = a.fits; weighs = omega arith; bounded = bounded; flat = flat }));
+            (record { same = a.fits; weighs = omega arith; bounded = bounded; flat = flat }));
         is = refl;
       }
 
@@ -260,9 +263,9 @@ module _ (parts : SigParts) (n : ℕ) (levels : List (List Tree)) (are : AreLeve
   variables_rising = each_below_rising (Earlier parts) (length parts.sort_names) (λ i. first_variable parts (record { 0 = i }))
       (λ k less. variable_rising (record { 0 = k }))
       (λ j k less within s t p q.
-        let (some, is) = in_first_variable (record { 0 = j }) s p in
-        let (more, is_too) = in_first_variable (record { 0 = k }) t q in
-        subst₂ (Earlier parts) (sym is) (sym is_too) (sort_earlier parts (record { 0 = j }) (record { 0 = k }) 0 0 less))
+      let (some, is) = in_first_variable (record { 0 = j }) s p in
+      let (more, is_too) = in_first_variable (record { 0 = k }) t q in
+      subst₂ (Earlier parts) (sym is) (sym is_too) (sort_earlier parts (record { 0 = j }) (record { 0 = k }) 0 0 less))
 
   first_sound : (t : Tree) → IsFirst t → IsSchema parts 1 t
   first_sound t a = by (record { 0 = a.number }) a.is (lt-ltb a.number (length parts.sort_names) a.declared) a.some
@@ -284,11 +287,12 @@ module _ (parts : SigParts) (n : ℕ) (levels : List (List Tree)) (are : AreLeve
   first_complete sort index s =
       let (same, zero_is) = same_var sort sort 0 index (sym (schema-Var sort index) ∙ s.flat) in
       let (declared, is) = some_if (is_declared_sort parts sort) sort s.sort (sym (sort-Var parts sort index) ∙ s.sorted) in
-      let bounded : nat_lt 0 (vars_at parts sort) ≡ true = ap (λ i. nat_lt i (vars_at parts sort)) zero_is ∙ sym (bounded-Var parts sort index) ∙ s.bounded in
-      (sym s.weighs ∙ weight-Var parts sort index,
+      let bounded : nat_lt 0 (vars_at parts sort) ≡ true = ap (λ i. nat_lt i (vars_at parts sort)) zero_is ∙ sym (bounded-Var parts sort index) ∙ s.bounded in (
+        sym s.weighs ∙ weight-Var parts sort index,
         subst (λ i. In (Var sort i) (first_variables parts)) zero_is
-        (each_below_in (length parts.sort_names) (λ i. first_variable parts (record { 0 = i })) sort.0 (ltb-true sort.0 (length parts.sort_names) declared)
-          (first_variable_in sort bounded)))
+            (each_below_in (length parts.sort_names) (λ i. first_variable parts (record { 0 = i })) sort.0 (ltb-true sort.0 (length parts.sort_names) declared)
+            (first_variable_in sort bounded)),
+      )
 
   -- A level
 
@@ -309,22 +313,22 @@ module _ (parts : SigParts) (n : ℕ) (levels : List (List Tree)) (are : AreLeve
 
   level_sound : (w : ℕ) (t : Tree) → In t (level parts levels w) → IsSchema parts w t
   level_sound w t at = elim (in_split (if w == 1 then first_variables parts else []) (each_below (length parts.symbols) (λ i. applications parts levels w (record { 0 = i }))) at) [
-      inl h ↦ let (b, first) = in_variables_if (w == 1) t h in
+    | inl h ↦ let (b, first) = in_variables_if (w == 1) t h in
         subst (λ k. IsSchema parts k t) (sym (eqb-true w 1 b)) (first_sound t first)
     | inr h ↦ let (i, less, p) = in_each_below (length parts.symbols) (λ i. applications parts levels w (record { 0 = i })) h in
         over_sound w (record { 0 = i }) t (symbol_sound w i t p)
-    ]
+  ]
 
   level_complete : WeighsSomething parts → (t : Tree) → IsSchema parts (suc n) t → In t (level parts levels (suc n))
   level_complete weighs = tree_cases (λ t. IsSchema parts (suc n) t → In t (level parts levels (suc n)))
       (λ sort index s. let (one, at) = first_complete sort index s in
-        in_left (each_below (length parts.symbols) (λ i. applications parts levels (suc n) (record { 0 = i })))
-        (variables_if_in (suc n == 1) (Var sort index) (eq-eqb (suc n) 1 one) at))
+      in_left (each_below (length parts.symbols) (λ i. applications parts levels (suc n) (record { 0 = i })))
+      (variables_if_in (suc n == 1) (Var sort index) (eq-eqb (suc n) 1 one) at))
       (λ f args s. let over = over_complete weighs f args s in
-        in_right (if suc n == 1 then first_variables parts else [])
-        (each_below_in (length parts.symbols) (λ i. applications parts levels (suc n) (record { 0 = i })) f.0
-          (slice_get_within parts.symbols f.0 over.symbol over.declared)
-          (applications_in (suc n) f (symbol_at parts f) (App f args) over)))
+      in_right (if suc n == 1 then first_variables parts else [])
+      (each_below_in (length parts.symbols) (λ i. applications parts levels (suc n) (record { 0 = i })) f.0
+      (slice_get_within parts.symbols f.0 over.symbol over.declared)
+      (applications_in (suc n) f (symbol_at parts f) (App f args) over)))
 
   applications_rising : (w : ℕ) (f : SymId) (o : Option Sym) → symbol_at parts f ≡ o → Rising (Earlier parts) (applications_of parts levels w f o)
   applications_rising w f None found = tt
@@ -334,9 +338,9 @@ module _ (parts : SigParts) (n : ℕ) (levels : List (List Tree)) (are : AreLeve
           → Rising (Earlier parts) (if b && c then over_each f (rows_of (of_weight parts levels) (args_of symbol) (w - weight_at parts f)) else [])
       by true true e d = rising_map (Lex (Earlier parts)) (Earlier parts) (App f) (rows_of (of_weight parts levels) (args_of symbol) (w - weight_at parts f))
           (λ x y p q h. rows_earlier parts f x y
-            (weight-App parts f x ∙ ap (λ k. weight_at parts f + k) ((args_sound (args_of symbol) (w - weight_at parts f) x (in_rows (of_weight parts levels) (args_of symbol) (w - weight_at parts f) x p)).weighs
-              ∙ sym ((args_sound (args_of symbol) (w - weight_at parts f) y (in_rows (of_weight parts levels) (args_of symbol) (w - weight_at parts f) y q)).weighs))
-              ∙ sym (weight-App parts f y)) h)
+          (weight-App parts f x ∙ ap (λ k. weight_at parts f + k) ((args_sound (args_of symbol) (w - weight_at parts f) x (in_rows (of_weight parts levels) (args_of symbol) (w - weight_at parts f) x p)).weighs
+          ∙ sym ((args_sound (args_of symbol) (w - weight_at parts f) y (in_rows (of_weight parts levels) (args_of symbol) (w - weight_at parts f) y q)).weighs))
+          ∙ sym (weight-App parts f y)) h)
           (arg_rows_rising (args_of symbol) (w - weight_at parts f))
       by true false e d = tt
       by false c e d = tt
@@ -345,21 +349,21 @@ module _ (parts : SigParts) (n : ℕ) (levels : List (List Tree)) (are : AreLeve
   level_rising w = rising_append (Earlier parts) (if w == 1 then first_variables parts else []) (each_below (length parts.symbols) (λ i. applications parts levels w (record { 0 = i })))
       (variables_if_rising (w == 1))
       (each_below_rising (Earlier parts) (length parts.symbols) (λ i. applications parts levels w (record { 0 = i }))
-        (λ k less. applications_rising w (record { 0 = k }) (symbol_at parts (record { 0 = k })) refl)
-        (λ j k less within s t p q.
-          let a = symbol_sound w j s p in
-          let b = symbol_sound w k t q in
-          let x = (over_sound w (record { 0 = j }) s a).weighs in
-          let y = (over_sound w (record { 0 = k }) t b).weighs in
-          subst₂ (Earlier parts) (sym a.is) (sym b.is)
-          (symbol_earlier parts (record { 0 = j }) (record { 0 = k }) a.args b.args (ap (weight parts) (sym a.is) ∙ x ∙ sym y ∙ ap (weight parts) b.is) less)))
+      (λ k less. applications_rising w (record { 0 = k }) (symbol_at parts (record { 0 = k })) refl)
+      (λ j k less within s t p q.
+      let a = symbol_sound w j s p in
+      let b = symbol_sound w k t q in
+      let x = (over_sound w (record { 0 = j }) s a).weighs in
+      let y = (over_sound w (record { 0 = k }) t b).weighs in
+      subst₂ (Earlier parts) (sym a.is) (sym b.is)
+      (symbol_earlier parts (record { 0 = j }) (record { 0 = k }) a.args b.args (ap (weight parts) (sym a.is) ∙ x ∙ sym y ∙ ap (weight parts) b.is) less)))
       (λ s t p q.
-        let (one, a) = in_variables_if (w == 1) s p in
-        let (i, less, at) = in_each_below (length parts.symbols) (λ i. applications parts levels w (record { 0 = i })) q in
-        let b = symbol_sound w i t at in
-        let y = (over_sound w (record { 0 = i }) t b).weighs in
-        subst₂ (Earlier parts) (sym a.is) (sym b.is)
-        (variable_earlier parts (record { 0 = a.number }) 0 (record { 0 = i }) b.args (ap (weight parts) (sym b.is) ∙ y ∙ eqb-true w 1 one)))
+      let (one, a) = in_variables_if (w == 1) s p in
+      let (i, less, at) = in_each_below (length parts.symbols) (λ i. applications parts levels w (record { 0 = i })) q in
+      let b = symbol_sound w i t at in
+      let y = (over_sound w (record { 0 = i }) t b).weighs in
+      subst₂ (Earlier parts) (sym a.is) (sym b.is)
+      (variable_earlier parts (record { 0 = a.number }) 0 (record { 0 = i }) b.args (ap (weight parts) (sym b.is) ∙ y ∙ eqb-true w 1 one)))
 
   level_is : WeighsSomething parts → IsLevel parts (suc n) (level parts levels (suc n))
   level_is weighs = record { rising = level_rising (suc n); sound = level_sound (suc n); complete = level_complete weighs }
@@ -387,7 +391,7 @@ unfolding levels_to
 levels_are parts weighs zero = record {
   long = refl;
   each = λ k within. let e : 0 ≡ k = omega arith in
-    subst (λ j. IsLevel parts j (slice_index_or ([] ∷ []) j [])) e (record { rising = tt; sound = λ t at. elim at [ ]; complete = none_weighs_nothing parts weighs });
+      subst (λ j. IsLevel parts j (slice_index_or ([] ∷ []) j [])) e (record { rising = tt; sound = λ t at. elim at [ ]; complete = none_weighs_nothing parts weighs });
 }
 levels_are parts weighs (suc n) =
     more_levels parts n (levels_to parts n) (level parts (levels_to parts n) (suc n)) (levels_are parts weighs n)

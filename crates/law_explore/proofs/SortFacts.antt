@@ -63,6 +63,6 @@ is_applied parts f args sort a = sort-App parts f args ∙ over_is (symbol_at pa
 pub head_sorted : (parts : SigParts) (s u : SortId) (t : Tree) → sort_of parts t ≡ Some s → heads_sort parts u (out-Tree t) ≡ same_sort s u
 head_sorted parts s u = tree_cases (λ t. sort_of parts t ≡ Some s → heads_sort parts u (out-Tree t) ≡ same_sort s u)
     (λ own i e. let (declared, is) = some_if (is_declared_sort parts own) own s (sym (sort-Var parts own i) ∙ e) in
-      ap (heads_sort parts u) (outs-Var own i) ∙ ap (λ v. same_sort v u) is)
+    ap (heads_sort parts u) (outs-Var own i) ∙ ap (λ v. same_sort v u) is)
     (λ f args e. let a = applied parts f args s e in
-      ap (heads_sort parts u) (outs-App f args) ∙ ap (gives_sort u) a.declared ∙ ap (λ v. same_sort v u) a.gives)
+    ap (heads_sort parts u) (outs-App f args) ∙ ap (gives_sort u) a.declared ∙ ap (λ v. same_sort v u) a.gives)

@@ -1,6 +1,7 @@
 ghost use Rattle.std.specs.Prelude.{◌≡◌, ◌≤◌, length, map, slice_get, slice_index_or, IfOk};
 ghost use Rattle.std.specs.Option.{option_copied};
 ghost use Rattle.law_sig.specs.Signature.{symbol_at, width_at};
+ghost use Rattle.law_sig.specs.WellFormed.{IsWellFormed};
 ghost use Rattle.law_sig.specs.declared.tree.Tree.TheViews.{out-Tree};
 ghost use Rattle.law_sig.specs.declared.tree.Body.TheViews.{out-Body};
 ghost use Rattle.law_explore.specs.Constants.{only_sort, number_of, number_at, tests_of, place_in, first_values, atom_number, place_of, case_of, applied_number, value, vector};
@@ -39,7 +40,8 @@ pub fn tests(sig: &Sig) -> u64
 
 /// The values of the one sort in the pool that is listed.
 pub fn values(sig: &Sig) -> &[Tree]
-    ensures { result.now ≡ first_values (given_pools sig.now.settings.pools) }
+    ensures values { result.now ≡ first_values (given_pools sig.now.settings.pools) }
+    ensures well_formed { IsWellFormed sig.now }
 {
     match &sig.settings().pools {
         PoolRule::Given(pools) => match pools.get(0) {
@@ -58,7 +60,11 @@ fn variable(sig: &Sig, values: &[Tree], test: u64, index: u32) -> u32
     ensures { result ≡ number_at (slice_get values.now (place_in (width_at sig.now only_sort) test index)) }
 {
     let width = width(sig) as u64;
-    let place = if index == 0 { test % width } else { test / width % width };
+    let place = if index == 0 {
+        test % width
+    } else {
+        test / width % width
+    };
     match item(values, place as usize) {
         Some(Tree::App(head, _)) => head.0,
         _ => 0,
@@ -150,7 +156,13 @@ fn value(alloc: Global, sig: &Sig, values: &[Tree], test: u64, term: &Tree) -> R
 }
 
 /// The numbers of a term's values at so many tests.
-fn vector(alloc: Global, sig: &Sig, values: &[Tree], tests: u64, term: &Tree) -> Result<Vec<u64>, NoMemory>
+fn vector(
+    alloc: Global,
+    sig: &Sig,
+    values: &[Tree],
+    tests: u64,
+    term: &Tree,
+) -> Result<Vec<u64>, NoMemory>
     requires { length sig.now.sort_names ≡ 1 }
     ensures { IfOk result (λ found. found.items ≡ vector sig.now values.now tests term.now) }
 {

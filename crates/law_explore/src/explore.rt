@@ -40,7 +40,12 @@ fn instances(alloc: Global, sig: &Sig, schema: &Tree) -> Result<Seq<Tree>, NoMem
 }
 
 /// Adds the instances of these schemas.
-fn push_instances(alloc: Global, sig: &Sig, found: &mut Seq<Tree>, schemas: &[Tree]) -> Result<(), NoMemory>
+fn push_instances(
+    alloc: Global,
+    sig: &Sig,
+    found: &mut Seq<Tree>,
+    schemas: &[Tree],
+) -> Result<(), NoMemory>
     ensures { OnOk result (found.new ≡ found.old ++ flat_map (instances sig.now) schemas.now) }
 {
     for schema in schemas {

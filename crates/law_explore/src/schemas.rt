@@ -153,7 +153,11 @@ fn level(alloc: Global, sig: &Sig, levels: &[Seq<Tree>]) -> Result<Seq<Tree>, No
     requires { length levels.now < 2 ^ 32 }
     ensures { IfOk result (λ found. found ≡ level sig.now levels.now (length levels.now)) }
 {
-    let mut found = if levels.len() == 1 { first_variables(alloc, sig)? } else { Seq::new(alloc) };
+    let mut found = if levels.len() == 1 {
+        first_variables(alloc, sig)?
+    } else {
+        Seq::new(alloc)
+    };
     for number in 0..sig.symbols() {
         push_applications(alloc, sig, &mut found, levels, SymId(number))?;
     }

@@ -16,8 +16,8 @@ returns-then-number-own c =
     let own : SymId = record { 0 = c.args.number } in
     let items = c.constructors-own-items.result.now in
     ap (λ p. unwrap_or p 0) (sym (found_here (same_symbol own) items c.loop-at.at (record { 0 = 0 }) c.loop-at-test.true
-      (eq-eqb c.args.number (get_or items c.loop-at.at (record { 0 = 0 })).0 c.if-number-own.true))
-      ∙ c.loop-at.invariant ∙ ap (position_from (same_symbol own) 0) c.constructors-own-items.ensures)
+    (eq-eqb c.args.number (get_or items c.loop-at.at (record { 0 = 0 })).0 c.if-number-own.true))
+    ∙ c.loop-at.invariant ∙ ap (position_from (same_symbol own) 0) c.constructors-own-items.ensures)
 
 pub loop-at-preserved : goal.loop-at-preserved
 loop-at-preserved c =
@@ -32,4 +32,4 @@ returns c =
     let own : SymId = record { 0 = c.args.number } in
     let items = c.constructors-own-items.result.now in
     ap (λ p. unwrap_or p 0) (sym (found_never (same_symbol own) items c.loop-at.at (record { 0 = 0 }) c.loop-at-test.false)
-      ∙ c.loop-at.invariant ∙ ap (position_from (same_symbol own) 0) c.constructors-own-items.ensures)
+    ∙ c.loop-at.invariant ∙ ap (position_from (same_symbol own) 0) c.constructors-own-items.ensures)

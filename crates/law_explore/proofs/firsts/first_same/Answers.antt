@@ -19,10 +19,10 @@ loop-at-preserved c =
     let at = c.loop-at.at in
     let vector = c.index-vectors-at.result in
     let (known, so_far) = one_more (map (λ v. v.items) c.args.vectors.now) at (get same_items c.loop-at.places) (get same_items c.note.new.places) vector c.in_ok-first.first
-        c.loop-at.firsts.items c.push.new.self.items
-        (slice_get-map (λ v. v.items) c.args.vectors.now at
-          ∙ ap (option_map (λ v. v.items)) (slice_get-get_or c.args.vectors.now at vector c.loop-at-test.true ∙ ap Some (sym c.index-vectors-at.is)))
-        c.loop-at.invariant.known c.loop-at.invariant.so_far c.in_ok-first.ensures c.in-Ok.ensures.items in
+    c.loop-at.firsts.items c.push.new.self.items
+    (slice_get-map (λ v. v.items) c.args.vectors.now at
+    ∙ ap (option_map (λ v. v.items)) (slice_get-get_or c.args.vectors.now at vector c.loop-at-test.true ∙ ap Some (sym c.index-vectors-at.is)))
+    c.loop-at.invariant.known c.loop-at.invariant.so_far c.in_ok-first.ensures c.in-Ok.ensures.items in
     record { known = known; so_far = so_far }
 
 pub returns : goal.returns
