@@ -2,6 +2,7 @@
 #![tactic(auto)]
 
 mod input;
+mod list;
 mod plain;
 mod status;
 mod top;
