@@ -35,7 +35,7 @@ pigeons {A} (x ∷ xs) ys distinct have few y at =
     let joined : length (p.front ++ p.back) ≡ length p.front + length p.back = length-append p.front p.back in
     let fewer : length (p.front ++ p.back) ≤ length xs = omega arith in
     by p (pigeons xs (p.front ++ p.back) distinct.1 (λ z in_xs. elsewhere p.front p.back (subst (λ l. In z l) p.is (have z (there in_xs))) (of_each (λ w. x ≢ w) in_xs distinct.0)) fewer)
-      (in_split p.front (x ∷ p.back) (subst (λ l. In y l) p.is at))
+    (in_split p.front (x ∷ p.back) (subst (λ l. In y l) p.is at))
   where
     second : (p : Place x ys) → ((z : A) → In z (p.front ++ p.back) → In z xs) → (y ≡ x) ⊎ In y p.back → In y (x ∷ xs)
     second p rest (inl e) = subst (λ w. In w (x ∷ xs)) (sym e) here

@@ -37,8 +37,8 @@ use Rattle.law_sig.specs.declared.tree.Tree.TheFolds.{fold-Tree}
 use Rattle.law_laws.proofs.TreeFacts.{tree_cases, fold-Var, fold-App}
 use Rattle.law_laws.proofs.BodyFacts.{some_is, none_is}
 use Rattle.law_laws.proofs.Sorts.{HaveSorts, IsApplication, sorted_app}
-use Rattle.law_types.specs.Profile.{IsFirstProfile, IsConstant, IsAtomStep}
-use Rattle.law_types.specs.Profile as profile
+use Rattle.law_explore.specs.Profile.{IsFirstProfile, IsConstant, IsAtomStep}
+use Rattle.law_explore.specs.Profile as profile
 use Rattle.law_cli.specs.Small.{IsSmallText}
 use Rattle.law_cli.specs.SmallReadPlain.{IsAtom, IsPlain, IsPlainHead, ArePlain}
 use Rattle.law_laws.proofs.ListFacts.{each_of, of_each}
@@ -49,13 +49,15 @@ use Rattle.law_cli.proofs.Pigeons.{pigeons}
 -- a name or a parameter by itself
 name_alone : (name : List ℕ) → IsAtom (raw_term (Name name) [])
 name_alone name = record {
-    head = subst IsPlainHead (sym (ap (λ t. t.head) (out-roll-RawTerm (record { head = Name name; args = [] })))) tt;
-    alone = ap (λ t. t.args) (out-roll-RawTerm (record { head = Name name; args = [] })) }
+  head = subst IsPlainHead (sym (ap (λ t. t.head) (out-roll-RawTerm (record { head = Name name; args = [] })))) tt;
+  alone = ap (λ t. t.args) (out-roll-RawTerm (record { head = Name name; args = [] }));
+}
 
 param_alone : (number : ℕ) → IsAtom (raw_term (Param number) [])
 param_alone number = record {
-    head = subst IsPlainHead (sym (ap (λ t. t.head) (out-roll-RawTerm (record { head = Param number; args = [] })))) tt;
-    alone = ap (λ t. t.args) (out-roll-RawTerm (record { head = Param number; args = [] })) }
+  head = subst IsPlainHead (sym (ap (λ t. t.head) (out-roll-RawTerm (record { head = Param number; args = [] })))) tt;
+  alone = ap (λ t. t.args) (out-roll-RawTerm (record { head = Param number; args = [] }));
+}
 
 -- an atom of a body is written as one
 atom_named : (parts : SigParts) (body : Body) → profile.IsAtom body → IsAtom (named_body parts body)
@@ -95,7 +97,7 @@ cons_alone parts number (sym.Con con ∷ symbols) sort has constants =
   where
     by : (makes : Bool) → Each (λ f. arg_names parts f ≡ []) (constructors_from (number + 1) symbols sort)
         → Each (λ f. arg_names parts f ≡ [])
-            (if makes then record { 0 = number } ∷ constructors_from (number + 1) symbols sort else constructors_from (number + 1) symbols sort)
+        (if makes then record { 0 = number } ∷ constructors_from (number + 1) symbols sort else constructors_from (number + 1) symbols sort)
     by true rest = (alone parts (record { 0 = number }) (sym.Con con) (has_first parts number (sym.Con con) symbols has) constants.0, rest)
     by false rest = rest
 cons_alone parts number (sym.Fun fun ∷ symbols) sort has constants =
@@ -120,9 +122,11 @@ plain_joined f plain (x ∷ xs) = plain_append (f x) (joined (map f xs)) (plain 
 
 -- a sort with its constructors
 pub block_plain : (vars width : ℕ) (parts : SigParts) → Each IsConstant parts.symbols → (sort : SortId) → Each IsPlain (sort_block (first vars width) parts sort)
-block_plain vars width parts constants sort =
-    (tt, plain_map (con_line (first vars width) parts) (λ f. arg_names parts f ≡ []) (λ f none. none) (constructors parts sort)
-        (cons_alone parts 0 parts.symbols sort (has_all parts) constants))
+block_plain vars width parts constants sort = (
+  tt,
+  plain_map (con_line (first vars width) parts) (λ f. arg_names parts f ≡ []) (λ f none. none) (constructors parts sort)
+      (cons_alone parts 0 parts.symbols sort (has_all parts) constants),
+)
 
 -- Names of constructors
 
@@ -161,8 +165,9 @@ later_named parts n names cons named = record { among = more_among parts n names
 with_first : (parts : SigParts) (number : ℕ) (n : List ℕ) (names : List (List ℕ)) (cons : List SymId) → slice_index_or parts.symbol_names number [] ≡ n
     → Each (λ m. n ≢ m) names → AreNamed parts names cons → AreNamed parts (n ∷ names) (record { 0 = number } ∷ cons)
 with_first parts number n names cons is other named = record {
-    among = (subst (λ m. In m (n ∷ names)) (sym is) here, more_among parts n names cons named.among);
-    distinct = (subst (λ m. Each (λ k. m ≢ k) (map (symbol_name parts) cons)) (sym is) (other_names parts n names cons other named.among), named.distinct) }
+  among = (subst (λ m. In m (n ∷ names)) (sym is) here, more_among parts n names cons named.among);
+  distinct = (subst (λ m. Each (λ k. m ≢ k) (map (symbol_name parts) cons)) (sym is) (other_names parts n names cons other named.among), named.distinct);
+}
 
 cons_named : (parts : SigParts) (number : ℕ) (symbols : List Sym) (names : List (List ℕ)) (sort : SortId) → length names ≡ length symbols → HasNames parts number names
     → AreDistinct names → AreNamed parts names (constructors_from number symbols sort)
@@ -174,7 +179,7 @@ cons_named parts number (s ∷ symbols) (n ∷ names) sort lengths has distinct 
   where
     by : (makes : Bool) → AreNamed parts names (constructors_from (number + 1) symbols sort)
         → AreNamed parts (n ∷ names)
-            (if makes then record { 0 = number } ∷ constructors_from (number + 1) symbols sort else constructors_from (number + 1) symbols sort)
+        (if makes then record { 0 = number } ∷ constructors_from (number + 1) symbols sort else constructors_from (number + 1) symbols sort)
     by true rest = with_first parts number n names (constructors_from (number + 1) symbols sort) (first_name parts number n names has) distinct.0 rest
     by false rest = later_named parts n names (constructors_from (number + 1) symbols sort) rest
 
@@ -221,10 +226,10 @@ pub cases_plain : (parts : SigParts) (cons : List SymId) (bodies : List Body) (l
     → AreDistinct (map (symbol_name parts) cons) → Each profile.IsAtom bodies → Each IsPlain lines
 cases_plain parts cons bodies lines cases same distinct atoms =
     each_of IsPlain lines (λ l at. of_each IsPlain
-      (pigeons (canon parts cons bodies) lines (canon_distinct parts cons bodies distinct)
-        (λ x in_canon. of_each (λ l. In l lines) in_canon (canon_among parts cons bodies lines cases.each))
-        (fits (canon_length parts cons bodies same) cases.one_each) l at)
-      (canon_plain parts cons bodies atoms))
+    (pigeons (canon parts cons bodies) lines (canon_distinct parts cons bodies distinct)
+    (λ x in_canon. of_each (λ l. In l lines) in_canon (canon_among parts cons bodies lines cases.each))
+    (fits (canon_length parts cons bodies same) cases.one_each) l at)
+    (canon_plain parts cons bodies atoms))
   where
     fits : length (canon parts cons bodies) ≡ length cons → length lines ≡ length cons → length lines ≤ length (canon parts cons bodies)
     fits a b = omega arith
@@ -248,7 +253,7 @@ rules_plain parts f fun (Some place) lines distinct fits atoms rules =
     let one : rules.0 ≡ fits.0 = some_is rules.0 fits.0 (sym rules.2 ∙ fits.1) in
     let cases : AreCaseLines parts (constructors parts fits.0) fun.cases rules.1 = subst (λ s. AreCaseLines parts (constructors parts s) fun.cases rules.1) one rules.4 in
     subst (Each IsPlain) (sym rules.3)
-      (tt, cases_plain parts (constructors parts fits.0) fun.cases rules.1 cases (cases_length parts (λ fields body. IsBody parts (record { owner = f; place = Some place; fields = fields; params = fun.args }) fun.result body) (constructors parts fits.0) fun.cases fits.2) (distinct fits.0) atoms)
+    (tt, cases_plain parts (constructors parts fits.0) fun.cases rules.1 cases (cases_length parts (λ fields body. IsBody parts (record { owner = f; place = Some place; fields = fields; params = fun.args }) fun.result body) (constructors parts fits.0) fun.cases fits.2) (distinct fits.0) atoms)
 
 pub funs_plain : (vars width : ℕ) (parts : SigParts) → IsWellFormed parts → ((sort : SortId) → AreDistinct (map (symbol_name parts) (constructors parts sort)))
     → (number : ℕ) (symbols : List Sym) (lines : List RawLine) → HasFrom parts number symbols → Each IsConstant symbols
@@ -256,14 +261,16 @@ pub funs_plain : (vars width : ℕ) (parts : SigParts) → IsWellFormed parts �
 funs_plain vars width parts well distinct number [] lines has constants stated = subst (Each IsPlain) (sym stated) tt
 funs_plain vars width parts well distinct number (sym.Con con ∷ symbols) lines has constants stated =
     funs_plain vars width parts well distinct (suc number) symbols lines
-      (subst (λ n. HasFrom parts n symbols) (omega arith) (has_rest parts number (sym.Con con) symbols has)) constants.1 stated
+    (subst (λ n. HasFrom parts n symbols) (omega arith) (has_rest parts number (sym.Con con) symbols has)) constants.1 stated
 funs_plain vars width parts well distinct number (sym.Fun fun ∷ symbols) lines has constants stated =
     let f : SymId = record { 0 = number } in
-    subst (Each IsPlain) (sym stated.2)
-      (tt, plain_append stated.0 stated.1
-        (rules_plain parts f fun fun.place stated.0 distinct ((well.symbols f (sym.Fun fun) (has_first parts number (sym.Fun fun) symbols has)).bodies) constants.0 stated.3)
-        (funs_plain vars width parts well distinct (suc number) symbols stated.1
-          (subst (λ n. HasFrom parts n symbols) (omega arith) (has_rest parts number (sym.Fun fun) symbols has)) constants.1 stated.4))
+    subst (Each IsPlain) (sym stated.2) (
+      tt,
+      plain_append stated.0 stated.1
+          (rules_plain parts f fun fun.place stated.0 distinct ((well.symbols f (sym.Fun fun) (has_first parts number (sym.Fun fun) symbols has)).bodies) constants.0 stated.3)
+          (funs_plain vars width parts well distinct (suc number) symbols stated.1
+          (subst (λ n. HasFrom parts n symbols) (omega arith) (has_rest parts number (sym.Fun fun) symbols has)) constants.1 stated.4),
+    )
 
 -- Values
 
@@ -301,7 +308,7 @@ value_atom parts sort constants = tree_cases (λ v. IsValueOf parts sort v → I
         let made : (is_constructor (symbol_at parts f) && list_all (λ m. m) (map (fold-Tree Bool (value_step parts)) args)) ≡ true = sym (fold-App Bool (value_step parts) f args) ∙ value.made in
         let none : args ≡ [] = value_args parts f args sort constants (and_first _ _ made) (sorted_app parts f args sort value.sorted) in
         subst IsAtom (sym (fold-App RawTerm (name_step parts) f args))
-          (subst (λ l. IsAtom (raw_term (Name (symbol_name parts f)) (map (named_term parts) l))) (sym none) (name_alone (symbol_name parts f)))
+        (subst (λ l. IsAtom (raw_term (Name (symbol_name parts f)) (map (named_term parts) l))) (sym none) (name_alone (symbol_name parts f)))
 
 -- The whole text
 
@@ -320,7 +327,7 @@ given_plain : (parts : SigParts) → Each IsConstant parts.symbols → (given : 
 given_plain parts constants given pool is have =
     let one : AreGiven parts (pool ∷ []) = subst (IsPoolRule parts) is have in
     subst (λ g. Each IsPlain (given_lines parts g)) (sym is)
-      (tt, plain_append (values_lines parts 0 pool) [] (values_plain parts constants 0 pool one.each_pool.0.values) tt)
+    (tt, plain_append (values_lines parts 0 pool) [] (values_plain parts constants 0 pool one.each_pool.0.values) tt)
 
 settings_plain : (vars width : ℕ) (parts : SigParts) (pool : List (List Tree)) → parts.settings.pools ≡ rule.Given (pool ∷ []) → Each IsPlain (settings_lines (first vars width) parts)
 settings_plain vars width parts pool is = (tt, (tt, (tt, (tt, (tt, (tt, (subst (λ g. IsPlain (pools_line g)) (sym is) tt, tt)))))))
@@ -333,22 +340,24 @@ small_plain bytes lines parts small = by small.typed.version small.typed.functio
     distinct sort =
         let well = small.typed.well_formed in
         (cons_named parts 0 parts.symbols parts.symbol_names sort well.one_name_each
-          (λ i below. let same : 0 + i ≡ i = omega arith in ap (λ k. slice_index_or parts.symbol_names k []) same) well.symbol_names.distinct).distinct
+        (λ i below. let same : 0 + i ≡ i = omega arith in ap (λ k. slice_index_or parts.symbol_names k []) same) well.symbol_names.distinct).distinct
 
     no_background : Each IsPlain (map (background_line parts) parts.settings.background)
     no_background = subst (λ l. Each IsPlain (map (background_line parts) l)) (sym small.profile.no_background) tt
 
     by : (version : Version) (functions : List RawLine) → AreFunLines version parts 0 parts.symbols functions
         → lines ≡ settings_lines version parts ++ (joined (map (sort_block version parts) (sort_ids parts)) ++ (functions
-            ++ (line.Explore (map (symbol_name parts) parts.settings.explored) ∷ (map (background_line parts) parts.settings.background
-            ++ (given_lines parts parts.settings.pools ++ line.End ∷ []))))) → ArePlain lines
+        ++ (line.Explore (map (symbol_name parts) parts.settings.explored) ∷ (map (background_line parts) parts.settings.background
+        ++ (given_lines parts parts.settings.pools ++ line.End ∷ []))))) → ArePlain lines
     by (first vars width) functions stated is = subst (Each IsPlain) (sym is)
         (plain_append (settings_lines (first vars width) parts) _ (settings_plain vars width parts small.profile.pool small.profile.one_pool)
-          (plain_append (joined (map (sort_block (first vars width) parts) (sort_ids parts))) _ (plain_joined (sort_block (first vars width) parts) (block_plain vars width parts small.profile.constants) (sort_ids parts))
-            (plain_append functions _ (funs_plain vars width parts small.typed.well_formed distinct 0 parts.symbols functions (has_all parts) small.profile.constants stated)
-              (tt, plain_append (map (background_line parts) parts.settings.background) _ no_background
-                (plain_append (given_lines parts parts.settings.pools) (line.End ∷ [])
-                  (given_plain parts small.profile.constants parts.settings.pools small.profile.pool small.profile.one_pool small.typed.well_formed.settings.pools) (tt, tt))))))
+        (plain_append (joined (map (sort_block (first vars width) parts) (sort_ids parts))) _ (plain_joined (sort_block (first vars width) parts) (block_plain vars width parts small.profile.constants) (sort_ids parts))
+        (plain_append functions _ (funs_plain vars width parts small.typed.well_formed distinct 0 parts.symbols functions (has_all parts) small.profile.constants stated) (
+          tt,
+          plain_append (map (background_line parts) parts.settings.background) _ no_background
+              (plain_append (given_lines parts parts.settings.pools) (line.End ∷ [])
+              (given_plain parts small.profile.constants parts.settings.pools small.profile.pool small.profile.one_pool small.typed.well_formed.settings.pools) (tt, tt)),
+        ))))
     by second functions stated is = absurd (wrong (sym (ap (take 1) is) ∙ small.first_version))
       where
         wrong : ◌≡◌ {A = List RawLine} (line.Head2 ∷ []) (line.Head ∷ []) → ⊥

@@ -3,3 +3,4 @@ pub mod Printed
 pub mod Promise
 pub mod Reading
 pub mod SmallReadPlain
+pub mod SmallTypes

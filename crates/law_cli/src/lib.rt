@@ -4,6 +4,8 @@
 mod input;
 mod list;
 mod plain;
+mod small_read;
+mod small_types;
 mod status;
 mod top;
 

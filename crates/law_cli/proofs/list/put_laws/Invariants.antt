@@ -5,5 +5,6 @@ use Rattle.law_cli.proofs.list.put_laws.Given as goal
 
 abbrev pub invariant-loop-law : goal.invariant-loop-law
 invariant-loop-law l = record {
-    number : l.number ≡ length l.sig.settings.background + 1 + l.law-index;
-    rest : l.out ++ text_of (law_spellings l.sig l.number (drop l.law-index l.laws)) ≡ l.initial.out ++ laws_text l.sig l.laws }
+  number : l.number ≡ length l.sig.settings.background + 1 + l.law-index;
+  rest : l.out ++ text_of (law_spellings l.sig l.number (drop l.law-index l.laws)) ≡ l.initial.out ++ laws_text l.sig l.laws;
+}
