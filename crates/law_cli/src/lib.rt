@@ -11,3 +11,6 @@ mod top;
 
 pub use status::{Status, code, status_line};
 pub use top::run;
+
+#[cfg(test)]
+mod tests;

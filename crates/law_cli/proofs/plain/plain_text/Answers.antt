@@ -17,4 +17,4 @@ returns-in_default-2 c = λ s.
     let found = c.in_ok-raw.ensures.found s.lines s.text.raw (small_plain c.args.bytes.now s.lines s.parts s.text) s.text.spelled in
     let same : ◌≡◌ {A = List RawLine} s.lines c.lines.result.now = sym (c.lines.ensures.same ∙ some_is _ _ (sym c.in-Some.is ∙ found)) in
     (rw c.in_default-2.is at c.in_ok-sig.ensures) s.parts
-      (subst (λ l. IsSmallTyped l s.parts) same (record { first_version = s.text.first_version; typed = s.text.typed; profile = s.text.profile }))
+    (subst (λ l. IsSmallTyped l s.parts) same (record { first_version = s.text.first_version; typed = s.text.typed; profile = s.text.profile }))
