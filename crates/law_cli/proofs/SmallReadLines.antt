@@ -1,5 +1,5 @@
 -- The lines that are read from a table of words, against the lines that a signature has.
-use Rattle.std.proofs.Common.{◌≡◌, ◌≢◌, ℕ, ◌<◌, ◌^◌, Bool, true, false, ◌&&◌, nat_lt, nat_le, List, [], ◌∷◌, ◌++◌, map, take, get_or, length, cond, ◌-◌, Option, Some, None, MatchOption, Result, Ok, Err, IfOk, refl, ap, sym, ◌∙◌, subst, arith, codes}
+use Rattle.std.proofs.Common.{◌≡◌, ◌≢◌, ℕ, ◌<◌, ◌^◌, Bool, true, false, ◌&&◌, nat_lt, nat_le, List, [], ◌∷◌, ◌++◌, map, take, get_or, length, cond, ◌-◌, Option, Some, None, MatchOption, Result, Ok, Err, IfOk, IfSome, refl, ap, sym, ◌∙◌, subst, arith, codes}
 use Rattle.std.specs.Option.{option_map}
 use Rattle.std.specs.List.{list_all, AllByRecursion}
 use Rattle.std.proofs.lemmas.Bool.Decides.{nat_tests}
@@ -375,9 +375,18 @@ other_text bytes sig h n lines is plain e =
     let same : lines ≡ sig = cc in
     n (e ∙ ap sig_spelling same)
 
-pub answered : {E : Type 0} (found : Result (Option (List RawLine)) E) (bytes : List ℕ) (sig : List RawLine) → lines_of (table_of bytes) ≡ Some sig
-    → IfOk found (λ o. MatchOption o (bytes ≢ sig_spelling sig) (λ same. bytes ≡ sig_spelling same))
-    → IfOk found (λ o. MatchOption o (IsNoText bytes) (λ same. bytes ≡ sig_spelling same))
-answered (Ok (Some same)) bytes sig h p = p
-answered (Ok None) bytes sig h p = other_text bytes sig h p
-answered (Err e) bytes sig h p = tt
+-- what comparing with the bytes answers
+abbrev pub IsCompared : List ℕ → List RawLine → Option (List RawLine) → Type 0
+IsCompared bytes sig found = MatchOption found (bytes ≢ sig_spelling sig) (λ same. (same ≡ sig) × (bytes ≡ sig_spelling sig))
+
+pub is_spelled : {E : Type 0} (answer : Result (Option (List RawLine)) E) (bytes : List ℕ) (sig : List RawLine)
+    → IfOk answer (IsCompared bytes sig) → IfOk answer (λ found. IfSome found (λ same. bytes ≡ sig_spelling same))
+is_spelled (Ok (Some same)) bytes sig p = p.1 ∙ ap sig_spelling (sym p.0)
+is_spelled (Ok None) bytes sig p = tt
+is_spelled (Err e) bytes sig p = tt
+
+pub is_found : {E : Type 0} (answer : Result (Option (List RawLine)) E) (bytes : List ℕ) (sig : List RawLine) → lines_of (table_of bytes) ≡ Some sig
+    → IfOk answer (IsCompared bytes sig) → IfOk answer (λ found. (lines : List RawLine) → IsRawSig lines → ArePlain lines → bytes ≡ sig_spelling lines → found ≡ Some lines)
+is_found (Ok (Some same)) bytes sig h p = λ lines is plain e. let d = (complete bytes lines is plain e).found in let q = p.0 in cc
+is_found (Ok None) bytes sig h p = λ lines is plain e. absurd (other_text bytes sig h p lines is plain e)
+is_found (Err e) bytes sig h p = tt

@@ -1,4 +1,8 @@
 pub mod Small
+pub mod Printed
+pub mod Promise
+pub mod Reading
 pub mod SmallReadPlain
+pub mod SmallTypes
 pub mod SmallReadWords
 pub mod SmallReadOrder

@@ -1,4 +1,4 @@
-ghost use Rattle.std.specs.Prelude.{◌≡◌, ◌≢◌, ◌^◌, List, None, map, option_map, IfOk, MatchOption};
+ghost use Rattle.std.specs.Prelude.{◌≡◌, ◌≢◌, ◌^◌, List, Some, None, map, option_map, IfOk, IfSome, MatchOption};
 ghost use Rattle.std.specs.List.{list_all};
 ghost use Rattle.std.specs.Str.{bytes_eq};
 ghost use Rattle.law_text.specs.Words.{is_name, number_below};
@@ -37,9 +37,10 @@ pub enum Kind {
     End,
 }
 
-/// A signature that the bytes spell; `None` only where they spell none of plain lines.
+/// The lines that the bytes spell; they are found wherever the bytes spell a signature of plain lines.
 pub fn read_small(alloc: Global, bytes: &[u8]) -> Result<Option<RawSig>, NoMemory>
-    ensures { IfOk result (λ found. MatchOption found ((lines : List RawLine) → IsRawSig lines → ArePlain lines → bytes.now ≡ sig_spelling lines → ⊥) (λ sig. bytes.now ≡ sig_spelling sig)) }
+    ensures spelled { IfOk result (λ found. IfSome found (λ sig. bytes.now ≡ sig_spelling sig)) }
+    ensures found { IfOk result (λ found. (lines : List RawLine) → IsRawSig lines → ArePlain lines → bytes.now ≡ sig_spelling lines → found ≡ Some lines) }
 {
     let table = split_lines(alloc, bytes)?;
     if !is_in_order(table.as_slice()) {
@@ -53,7 +54,7 @@ pub fn read_small(alloc: Global, bytes: &[u8]) -> Result<Option<RawSig>, NoMemor
 
 /// The signature, where it is spelled so.
 fn spelled_so(alloc: Global, sig: RawSig, bytes: &[u8]) -> Result<Option<RawSig>, NoMemory>
-    ensures { IfOk result (λ found. MatchOption found (bytes.now ≢ sig_spelling sig) (λ same. bytes.now ≡ sig_spelling same)) }
+    ensures { IfOk result (λ found. MatchOption found (bytes.now ≢ sig_spelling sig) (λ same. (same ≡ sig) × (bytes.now ≡ sig_spelling sig))) }
 {
     let text = write_sig(alloc, &sig)?;
     if text.as_slice() == bytes {
