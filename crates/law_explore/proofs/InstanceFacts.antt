@@ -1,5 +1,5 @@
 -- The instances of a schema are exactly the terms that have it, rising in the order K; and all instances are the universe.
-use Rattle.std.proofs.Common.{◌≡◌, ℕ, zero, suc, ◌+◌, ◌<◌, ◌≤◌, ◌⊎◌, inl, inr, Bool, true, false, ◌&&◌, nat_lt, Some, IsTrue, List, [], ◌∷◌, ◌++◌, length, map, slice_get, slice_index_or, arith, refl, sym, ap, ap₂, ◌∙◌, subst}
+use Rattle.std.proofs.Common.{◌≡◌, ℕ, ◌<◌, ◌≤◌, inl, inr, true, Some, List, [], ◌∷◌, length, map, slice_get, slice_index_or, arith, refl, sym, ap, ap₂, ◌∙◌, subst}
 use Rattle.std.proofs.Math.Path.{subst₂}
 use Rattle.std.specs.List.{list_all, flat_map}
 use Rattle.std.specs.Cmp.Derive.{both_true}
@@ -17,8 +17,7 @@ use Rattle.law_sig.specs.declared.tree.SymId.{SymId}
 use Rattle.law_sig.specs.declared.tree.Tree.{Tree}
 use Rattle.law_sig.specs.declared.tree.Tree.TheVariants.{Var, App}
 use Rattle.law_sig.specs.declared.parts.SigParts.{SigParts}
-use Rattle.law_laws.specs.Orders.{WeighsSomething}
-use Rattle.law_laws.proofs.Ranks.{Below, below_less}
+use Rattle.law_laws.proofs.Ranks.{below_less}
 use Rattle.law_laws.proofs.Orders.{lighter, schema_weight}
 use Rattle.law_laws.proofs.Descents.{weighs_something}
 use Rattle.law_laws.proofs.ListFacts.{of_each, in_left, in_right, in_split, in_map}

@@ -1,24 +1,23 @@
 -- What the first profile says of a signature's symbols, its values and its applications.
-use Rattle.std.proofs.Common.{◌≡◌, ℕ, zero, suc, ◌+◌, ◌<◌, ◌≤◌, Bool, true, false, ◌&&◌, cond, if◌then◌else◌, nat_lt, IsTrue, List, [], ◌∷◌, length, map, get_or, slice_get, Option, Some, None, option_map, option_and_then, arith, refl, sym, ap, ◌∙◌, subst}
+use Rattle.std.proofs.Common.{◌≡◌, ℕ, zero, suc, ◌+◌, ◌≤◌, Bool, true, false, cond, if◌then◌else◌, IsTrue, List, [], ◌∷◌, length, map, get_or, slice_get, Option, Some, None, option_map, option_and_then, arith, refl, sym, ap, ◌∙◌, subst}
 use Rattle.std.specs.List.{list_all, position_from}
 use Rattle.std.specs.Option.{unwrap_or}
-use Rattle.std.proofs.lemmas.Bool.{ltb-true, eqb-true, eq-eqb}
-use Rattle.std.proofs.lemmas.Option.{slice_get-get_or, slice_get_within, slice_get-map, get_or_from_slice_get}
+use Rattle.std.proofs.lemmas.Bool.{ltb-true, eq-eqb}
+use Rattle.std.proofs.lemmas.Option.{slice_get-get_or, slice_get_within, slice_get-map}
 use Rattle.law_sig.specs.Lists.{In, Each}
 use Rattle.law_sig.specs.Lists.In.{here, there}
-use Rattle.law_sig.specs.Trees.{same_sort, same_symbol}
-use Rattle.law_sig.specs.Signature.{symbol_at, is_declared_sort, args_of, result_of, makes_sort, constructors, constructors_from, sort_over, sort_of}
-use Rattle.law_sig.specs.Evaluate.{Made, Chosen, chosen, chosen_at, chosen_case, within, ap as applied}
+use Rattle.law_sig.specs.Trees.{same_symbol}
+use Rattle.law_sig.specs.Signature.{symbol_at, is_declared_sort, args_of, makes_sort, constructors, constructors_from, sort_of}
+use Rattle.law_sig.specs.Evaluate.{Made, chosen_at, chosen_case, within, ap as applied}
 use Rattle.law_sig.specs.Relation.{Applies, Gives}
 use Rattle.law_sig.specs.Relation.Applies.{built, ran}
 use Rattle.law_sig.specs.Relation.Gives.{param, make}
 use Rattle.law_sig.specs.Relation.GiveAll.{none}
-use Rattle.law_sig.specs.WellFormed.{IsWellFormed, IsDeclared, IsSymbol, IsValueOf, value_step, is_constructor, Scope, Part, part_step, sort_of_body, where_true, IsBody, IsCase, AreCases, FitsPlace}
+use Rattle.law_sig.specs.WellFormed.{IsWellFormed, IsDeclared, IsValueOf, value_step, is_constructor, Scope, Part, part_step, sort_of_body, where_true, IsBody, IsCase, AreCases, FitsPlace}
 use Rattle.law_sig.specs.declared.tree.SortId.{SortId}
 use Rattle.law_sig.specs.declared.tree.SymId.{SymId}
 use Rattle.law_sig.specs.declared.tree.Tree.{Tree}
-use Rattle.law_sig.specs.declared.tree.Tree.TheOpen as o
-use Rattle.law_sig.specs.declared.tree.Tree.TheVariants.{Var, App, outs-App}
+use Rattle.law_sig.specs.declared.tree.Tree.TheVariants.{App, outs-App}
 use Rattle.law_sig.specs.declared.tree.Tree.TheViews.{out-Tree}
 use Rattle.law_sig.specs.declared.tree.Tree.TheFolds.{fold-Tree}
 use Rattle.law_sig.specs.declared.tree.Body.{Body}
@@ -37,7 +36,7 @@ use Rattle.law_laws.proofs.BodyFacts.{is_within}
 use Rattle.law_laws.proofs.Application.{applies_is}
 use Rattle.law_laws.proofs.Sorts.{HaveSorts, sorted_app}
 use Rattle.law_explore.specs.Profile.{IsAtomStep, IsAtom, IsConstant, IsFirstProfile}
-use Rattle.law_explore.specs.Constants.{only_sort, constant, number_of, atom_number, case_number, place_of, case_of, applied_number}
+use Rattle.law_explore.specs.Constants.{only_sort, constant, number_of, atom_number, case_number, case_of, applied_number}
 use Rattle.law_explore.proofs.Rising.{at_place}
 use Rattle.law_explore.proofs.SortFacts.{both}
 

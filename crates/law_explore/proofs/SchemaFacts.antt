@@ -1,5 +1,5 @@
 -- The lists of schemas are, weight by weight, exactly the schemas of the universe, rising in the order K.
-use Rattle.std.proofs.Common.{◌≡◌, ℕ, zero, suc, ◌+◌, ◌-◌, ◌<◌, ◌≤◌, ◌⊎◌, inl, inr, ◌==◌, Bool, true, false, ◌&&◌, if◌then◌else◌, nat_lt, nat_le, Option, Some, None, IsTrue, List, [], ◌∷◌, ◌++◌, length, map, slice_get, slice_index_or, arith, rules, refl, sym, ap, ap₂, ◌∙◌, subst}
+use Rattle.std.proofs.Common.{◌≡◌, ℕ, zero, suc, ◌+◌, ◌-◌, ◌<◌, ◌≤◌, ◌⊎◌, inl, inr, ◌==◌, Bool, true, false, ◌&&◌, if◌then◌else◌, nat_lt, nat_le, Option, Some, None, IsTrue, List, [], ◌∷◌, ◌++◌, length, map, slice_index_or, arith, rules, refl, sym, ap, ap₂, ◌∙◌, subst}
 use Rattle.std.proofs.Math.Nat.{eq-or-lt_of_le}
 use Rattle.std.proofs.Math.Path.{subst₂}
 use Rattle.std.specs.List.{list_all}
@@ -29,7 +29,7 @@ use Rattle.law_explore.specs.Listing.{heads_sort, of_sort, of_weight, first_vari
 use Rattle.law_explore.proofs.Rising.{map_in, rising_append, rising_map}
 use Rattle.law_explore.proofs.RowFacts.{in_each_below, each_below_in, each_below_rising, IsRow, in_rows, rows_in, rows_rising}
 use Rattle.law_explore.proofs.Earlier.{Earlier, sort_earlier, variable_earlier, symbol_earlier, rows_earlier}
-use Rattle.law_explore.proofs.SortFacts.{both, some_if, same_is, is_same, has_is, IsApplied, applied, is_applied, head_sorted}
+use Rattle.law_explore.proofs.SortFacts.{both, some_if, same_is, is_same, has_is, applied, is_applied, head_sorted}
 
 -- a term of the universe, but for its weight, that is its own schema and weighs so much
 pub record IsSchema (parts : SigParts) (k : ℕ) (t : Tree) : Type 0 where

@@ -18,7 +18,6 @@ use Rattle.law_sig.specs.declared.tree.Body.{Body}
 use Rattle.law_sig.specs.declared.tree.Body.TheOpen.{Body-F}
 use Rattle.law_sig.specs.declared.tree.Body.TheOpen as b
 use Rattle.law_sig.specs.declared.tree.Body.TheViews.{out-Body}
-use Rattle.law_sig.specs.declared.parts.Fun.{Fun}
 use Rattle.law_sig.specs.declared.parts.Sym.{Sym}
 use Rattle.law_sig.specs.declared.parts.Sym.TheVariants as sym
 use Rattle.law_sig.specs.declared.parts.SigParts.{SigParts}

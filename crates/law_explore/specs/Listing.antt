@@ -1,7 +1,7 @@
 -- The universe as a list: the schemas weight by weight, and then the instances of each.
 use Rattle.std.specs.Prelude.{ℕ, zero, suc, ◌-◌, ◌==◌, List, [], ◌∷◌, ◌++◌, length, map, Bool, false, ◌&&◌, if◌then◌else◌, nat_lt, nat_le, Option, Some, None, slice_index_or}
 use Rattle.std.specs.List.{flat_map}
-use Rattle.law_sig.specs.Trees.{same_sort, joined}
+use Rattle.law_sig.specs.Trees.{same_sort}
 use Rattle.law_sig.specs.Signature.{symbol_at, args_of, result_of, vars_at, weight_at}
 use Rattle.law_sig.specs.Tests.{is_explored}
 use Rattle.law_sig.specs.declared.tree.SortId.{SortId}
@@ -14,7 +14,7 @@ use Rattle.law_sig.specs.declared.tree.Tree.TheFolds.{fold-Tree}
 use Rattle.law_sig.specs.declared.tree.Tree.TheViews.{out-Tree}
 use Rattle.law_sig.specs.declared.parts.Sym.{Sym}
 use Rattle.law_sig.specs.declared.parts.SigParts.{SigParts}
-use Rattle.law_explore.specs.Rows.{each_below, crossed, choices, rows_of}
+use Rattle.law_explore.specs.Rows.{each_below, choices, rows_of}
 
 -- Sorts by the head alone
 

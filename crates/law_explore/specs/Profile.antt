@@ -1,5 +1,5 @@
 -- The signatures that `plain` takes so far: one sort of constants, and functions without calls.
-use Rattle.std.specs.Prelude.{◌≡◌, ℕ, ◌≤◌, List, [], ◌∷◌, length}
+use Rattle.std.specs.Prelude.{◌≡◌, ◌≤◌, List, [], ◌∷◌, length}
 use Rattle.law_sig.specs.Lists.{Each}
 use Rattle.law_sig.specs.Tests.{Pools}
 use Rattle.law_sig.specs.declared.tree.Tree.{Tree}
