@@ -1,3 +1,10 @@
+pub mod TopFacts
+pub mod Pigeons
+pub mod SmallPlain
+pub mod SmallReadCuts
+pub mod SmallReadOrders
+pub mod SmallReadWords
+pub mod SmallReadLines
 pub mod SmallTypesNames
 pub mod SmallTypesSteps
 pub mod SmallTypesAtoms

@@ -28,9 +28,10 @@ use Rattle.law_read.specs.declared.raw.RawHead.TheVariants as head
 use Rattle.law_read.specs.declared.raw.RawTerm.{RawTerm}
 use Rattle.law_read.specs.declared.raw.RawTerm.TheViews.{out-RawTerm, out-roll-RawTerm, roll-out-RawTerm}
 use Rattle.law_types.specs.Naming.{symbol_name, named_term, name_step, named_body, name_body_step, raw_term}
-use Rattle.law_types.specs.Profile.{IsAtom, IsAtomStep}
-use Rattle.law_cli.specs.SmallTypes.{number_of, constant_of, head_constant, atom_of, head_atom, made, value}
-use Rattle.law_cli.proofs.SmallTypesNames.{number_found, number_at}
+use Rattle.law_explore.specs.Profile.{IsAtom, IsAtomStep}
+use Rattle.law_cli.specs.SmallTypesReading.{number_of, constant_of, head_constant, atom_of, head_atom, made, value}
+use Rattle.law_cli.proofs.SmallTypesNames.{and_first, number_found, number_at}
+use Rattle.law_laws.proofs.BodyFacts.{some_is}
 
 abbrev pub zero_sort : SortId
 zero_sort = record { 0 = 0 }
@@ -104,9 +105,6 @@ make_read parts cons scope has name k h =
       };
       atom = subst IsAtomStep (sym (v.outs-Make (record { 0 = k }) [])) refl;
     }
-
-some_is : {A : Type 0} (x y : A) → ◌≡◌ {A = Option A} (Some x) (Some y) → x ≡ y
-some_is x y e = cc
 
 made_read : (parts : SigParts) (cons : List (List ℕ)) (scope : Scope) → HasCons parts cons → (name : List ℕ) (found : Option ℕ) (body : Body)
     → number_of cons name ≡ found → made found ≡ Some body → IsReadAs parts scope (raw_term (head.Name name) []) body
@@ -235,10 +233,6 @@ con_back parts cons has distinct k within =
     ap (constant_of cons) (at_value RawTerm (name_step parts) k)
     ∙ ap (λ r. head_constant cons r.head r.args) (out-roll-RawTerm (record { head = head.Name (symbol_name parts (record { 0 = k })); args = [] }))
     ∙ (ap (number_of cons) (has.con_name k within) ∙ number_at cons k distinct within)
-
-and_first : (a b : Bool) → (a && b) ≡ true → a ≡ true
-and_first true b h = refl
-and_first false b h = h
 
 -- the arguments of a well-sorted constructor without fields
 no_args : (args : List (Option SortId)) (s : SortId) → sort_over (Some plain_con) args ≡ Some s → args ≡ []

@@ -17,15 +17,13 @@ use Rattle.law_read.specs.declared.raw.RawLine.TheVariants as line
 use Rattle.law_types.specs.Naming.{sort_name, symbol_name}
 use Rattle.law_types.specs.Typed.{AreRules, AreFunLines, fun_line, arg_names}
 use Rattle.law_types.specs.Typed.Version.{first}
-use Rattle.law_types.specs.Profile.{IsConstant}
-use Rattle.law_cli.specs.SmallTypes.{FunStart, Symbols, fun_start, first_fun, fun, fun_of, is_rule, funs_at, funs_end, funs_step, funs_more, start_fun, symbols_of}
+use Rattle.law_explore.specs.Profile.{IsConstant}
+use Rattle.law_cli.specs.SmallTypesReading.{FunStart, Symbols, fun_start, first_fun, fun, fun_of, is_rule, funs_at, funs_end, funs_step, funs_more, start_fun, symbols_of}
 use Rattle.law_cli.proofs.SmallTypesSteps.{ends_here, one_more}
 use Rattle.law_cli.proofs.SmallTypesAtoms.{zero_sort}
 use Rattle.law_cli.proofs.SmallTypesBodies.{dropped}
 use Rattle.law_cli.proofs.SmallTypesFuns.{HasSort, AreZero, zero_sorts_zero, length-zero_sorts, IsLineRead, IsBack, fun_read, fun_back, rules_back}
-
-some_is : {A : Type 0} (x y : A) → ◌≡◌ {A = Option A} (Some x) (Some y) → x ≡ y
-some_is x y e = cc
+use Rattle.law_laws.proofs.BodyFacts.{some_is}
 
 -- functions with these names, each with its line and its rules, which pass P
 abbrev pub AreBlocks : (List RawLine → Type 0) → List (List ℕ) → List ℕ → List (List ℕ) → List Fun → List RawLine → Type 0

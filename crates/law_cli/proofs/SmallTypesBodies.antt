@@ -13,10 +13,11 @@ use Rattle.law_read.specs.declared.raw.RawTerm.{RawTerm}
 use Rattle.law_read.specs.declared.raw.RawLine.{RawLine}
 use Rattle.law_read.specs.declared.raw.RawLine.TheVariants as line
 use Rattle.law_types.specs.Naming.{symbol_name, named_body}
-use Rattle.law_types.specs.Profile.{IsAtom}
-use Rattle.law_cli.specs.SmallTypes.{case_term, case_body, bodies_on, atom_of, is_rule}
+use Rattle.law_explore.specs.Profile.{IsAtom}
+use Rattle.law_cli.specs.SmallTypesReading.{case_term, case_body, bodies_on, atom_of, is_rule}
 use Rattle.law_cli.proofs.SmallTypesAtoms.{HasCons, IsReadAs, zero_sort, plain_con, atom_read, atom_back}
-use Rattle.law_cli.proofs.SmallTypesCases.{case_in, only_case, all_rules, HaveCases, in_rest, in_none}
+use Rattle.law_cli.proofs.SmallTypesCases.{case_in, only_case, all_rules, HaveCases}
+use Rattle.law_laws.proofs.ListFacts.{in_none, in_rest}
 
 -- the numbers from this one on, one for each item
 abbrev pub numbered : {A : Type 0} → ℕ → List A → List SymId

@@ -5,19 +5,9 @@ use Rattle.law_sig.specs.Lists.In.{here, there}
 use Rattle.law_read.specs.declared.raw.RawTerm.{RawTerm}
 use Rattle.law_read.specs.declared.raw.RawLine.{RawLine}
 use Rattle.law_read.specs.declared.raw.RawLine.TheVariants as line
-use Rattle.law_cli.specs.SmallTypes.{same_name, is_rule, case_term}
+use Rattle.law_cli.specs.SmallTypesReading.{same_name, is_rule, case_term}
 use Rattle.law_cli.proofs.SmallTypesNames.{same_itself, same_true, same_false}
-
-pub in_rest : {A : Type 0} {a c : A} {cs : List A} → In a (c ∷ cs) → (a ≡ c) ⊎ In a cs
-in_rest here = inl refl
-in_rest (there at) = inr at
-
-pub in_none : {A G : Type 0} {x : A} → In x [] → G
-in_none at = elim at [ ]
-
-pub of_each : {A : Type 0} (P : A → Type 0) {x : A} {xs : List A} → In x xs → Each P xs → P x
-of_each P here have = have.0
-of_each P (there at) have = of_each P at have.1
+use Rattle.law_laws.proofs.ListFacts.{of_each, in_none, in_rest}
 
 not_first : {A : Type 0} (a c : A) (cs : List A) → (a ≡ c → ⊥) → In a (c ∷ cs) → In a cs
 not_first a c cs ne at = decided (in_rest at)

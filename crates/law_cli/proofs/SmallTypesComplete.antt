@@ -25,16 +25,17 @@ use Rattle.law_read.specs.declared.raw.RawLine.TheVariants as line
 use Rattle.law_types.specs.Naming.{sort_name, symbol_name, named_term}
 use Rattle.law_types.specs.Typed.{Version, FitsVersion, IsTypedAs, AreFunLines, AreNumbered, functions_from, settings_lines, sort_block, sort_ids, background_line, given_lines, pools_line}
 use Rattle.law_types.specs.Typed.Version.{first, second, third}
-use Rattle.law_types.specs.Profile.{IsFirstProfile, IsConstant}
+use Rattle.law_explore.specs.Profile.{IsFirstProfile, IsConstant}
 use Rattle.law_cli.specs.declared.small_types.Numbers.{Numbers}
-use Rattle.law_cli.specs.SmallTypes.{are_in_range, same_name, no_two, are_names, con_names, behind_cons, con_symbols, Symbols, symbols_of, funs_at, Ending, ending, are_fit, ids_on, values_on, small_parts, typed_values, typed_funs, typed_cons, typing, IsSmallSig}
+use Rattle.law_cli.specs.SmallTypes.{IsSmallTyped}
+use Rattle.law_cli.specs.SmallTypesReading.{are_in_range, same_name, no_two, are_names, con_names, behind_cons, con_symbols, Symbols, symbols_of, funs_at, Ending, ending, are_fit, ids_on, values_on, small_parts, typed_values, typed_funs, typed_cons, typing}
 use Rattle.law_cli.proofs.SmallTypesNames.{same_itself, and_true, tested_each, of_distinct}
 use Rattle.law_cli.proofs.SmallTypesAtoms.{zero_sort, plain_con}
 use Rattle.law_cli.proofs.SmallTypesFuns.{HasSort, if_true}
 use Rattle.law_cli.proofs.SmallTypesBlocks.{AreBlocks, TestedRules, funs_back, lines_blocks}
-use Rattle.law_cli.proofs.SmallTypesSplit.{IsSplit, split_sort, split_funs, split_block, skipped_cons, after, con_row, one_sort_id}
+use Rattle.law_cli.proofs.SmallTypesSplit.{IsSplit, split_sort, split_funs, split_block, skipped_cons, after, con_row, length-con_symbols, one_sort_id}
 use Rattle.law_cli.proofs.SmallTypesEnds.{ids_back, IsPoolValue, values_back}
-use Rattle.law_cli.proofs.SmallTypesSound.{only_sort, length-cons, ending_lines, whole_lines}
+use Rattle.law_cli.proofs.SmallTypesSound.{only_sort, ending_lines, whole_lines}
 
 -- lists of one item
 
@@ -279,7 +280,7 @@ typed_back parts numbers sort d blocks tail explored values are few fit ids pool
     let (bare, behind) = no_con_first d.cons sort d.fun_names d.funs blocks tail are in
     let count : length parts.symbols ≡ length d.cons + length d.funs =
     ap length d.split.symbols ∙ length-append (con_symbols d.cons) (map s.Fun d.funs)
-    ∙ ap (λ k. k + length (map s.Fun d.funs)) (length-cons d.cons) ∙ ap (λ k. length d.cons + k) (length-map d.funs s.Fun) in
+    ∙ ap (λ k. k + length (map s.Fun d.funs)) (length-con_symbols d.cons) ∙ ap (λ k. length d.cons + k) (length-map d.funs s.Fun) in
     let many : length d.fun_names ≡ length d.funs = d.split.as_many in
     let fits : length d.fun_names ≤ room = omega (arith, count, many, few) in
     let le : length d.cons ≤ 16 = omega (arith, count, few) in
@@ -430,7 +431,7 @@ by_version lines functions parts second head formed profile fits numbered funs i
 by_version lines functions parts third head formed profile fits numbered funs is =
     let e : ◌≡◌ {A = List RawLine} (line.Head ∷ []) (line.Head3 ∷ []) = sym head ∙ ap (take 1) is in cc
 
-pub complete : (lines : List RawLine) (parts : SigParts) → IsSmallSig lines parts → typing lines ≡ None → ⊥
+pub complete : (lines : List RawLine) (parts : SigParts) → IsSmallTyped lines parts → typing lines ≡ None → ⊥
 complete lines parts small h =
     let t : IsTypedAs lines parts = small.typed in
     let (typed, is) = by_version lines t.functions parts t.version small.first_version t.well_formed small.profile t.fits t.numbered t.function_lines t.lines_are in

@@ -10,7 +10,7 @@ use Rattle.law_sig.specs.declared.tree.Tree.{Tree}
 use Rattle.law_sig.specs.declared.parts.SigParts.{SigParts}
 use Rattle.law_read.specs.declared.raw.RawTerm.{RawTerm}
 use Rattle.law_types.specs.Naming.{named_term}
-use Rattle.law_cli.specs.SmallTypes.{number_of, holds_id, id_more, ids_on, value, values_on, constant_of}
+use Rattle.law_cli.specs.SmallTypesReading.{number_of, holds_id, id_more, ids_on, value, values_on, constant_of}
 use Rattle.law_cli.proofs.SmallTypesNames.{number_found, number_at}
 use Rattle.law_cli.proofs.SmallTypesAtoms.{HasCons, zero_sort, IsValueRead, IsReadBack, value_read, value_back}
 

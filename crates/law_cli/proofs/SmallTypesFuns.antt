@@ -17,20 +17,18 @@ use Rattle.law_read.specs.declared.raw.RawLine.{RawLine}
 use Rattle.law_read.specs.declared.raw.RawLine.TheVariants as line
 use Rattle.law_types.specs.Naming.{sort_name, named_body}
 use Rattle.law_types.specs.Typed.{AreRules, AreCaseLines}
-use Rattle.law_types.specs.Profile.{IsAtom}
-use Rattle.law_cli.specs.SmallTypes.{same_name, atom_of, bodies_on, zero_sorts, are_all, fun, fun_with, fits_sort, fun_of, is_rule}
+use Rattle.law_explore.specs.Profile.{IsAtom}
+use Rattle.law_cli.specs.SmallTypesReading.{same_name, atom_of, bodies_on, zero_sorts, are_all, fun, fun_with, fits_sort, fun_of, is_rule}
 use Rattle.law_cli.proofs.SmallTypesNames.{same_itself, same_true, and_first, and_second, and_true}
 use Rattle.law_cli.proofs.SmallTypesAtoms.{HasCons, IsReadAs, zero_sort, atom_read, atom_back}
 use Rattle.law_cli.proofs.SmallTypesBodies.{numbered, length-numbered, named_from, AreRead, FitsCase, scope_of, bodies_found, cases_read, cases_back, cases_rules}
+use Rattle.law_laws.proofs.BodyFacts.{some_is}
 
 -- the one sort with its name, and its constructors, which are the first symbols
 pub record HasSort (parts : SigParts) (sort : List ℕ) (cons : List (List ℕ)) : Type 0 where
   pub has : HasCons parts cons
   pub ids : constructors parts zero_sort ≡ numbered 0 cons
   pub sort_is : sort_name parts zero_sort ≡ sort
-
-some_is : {A : Type 0} (x y : A) → ◌≡◌ {A = Option A} (Some x) (Some y) → x ≡ y
-some_is x y e = cc
 
 pub if_some : {A : Type 0} (b : Bool) (o : Option A) (x : A) → (if b then o else None) ≡ Some x → (b ≡ true) × (o ≡ Some x)
 if_some true o x h = (refl, h)

@@ -3,7 +3,7 @@ use Rattle.std.proofs.Common.{◌≡◌, ◌≢◌, ℕ, zero, suc, ◌+◌, ◌
 use Rattle.std.specs.Prelude.{◌==◌}
 use Rattle.std.specs.List.{list_all, position_from}
 use Rattle.law_sig.specs.Lists.{Each, AreDistinct}
-use Rattle.law_cli.specs.SmallTypes.{same_name, number_of, is_among, no_two}
+use Rattle.law_cli.specs.SmallTypesReading.{same_name, number_of, is_among, no_two}
 
 pub same_itself : (xs : List ℕ) → same_name xs xs ≡ true
 same_itself [] = refl

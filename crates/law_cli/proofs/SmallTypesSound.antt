@@ -20,18 +20,17 @@ use Rattle.law_read.specs.declared.raw.RawLine.TheVariants as line
 use Rattle.law_types.specs.Naming.{symbol_name, named_term}
 use Rattle.law_types.specs.Typed.{Version, IsTypedAs, AreFunLines, sort_block, sort_ids}
 use Rattle.law_types.specs.Typed.Version.{first}
-use Rattle.law_types.specs.Profile.{IsFirstProfile, IsConstant}
+use Rattle.law_explore.specs.Profile.{IsFirstProfile, IsConstant}
 use Rattle.law_cli.specs.declared.small_types.Numbers.{Numbers}
-use Rattle.law_cli.specs.SmallTypes.{Start, start, start_of, are_in_range, same_name, no_two, are_names, con_names, behind_cons, con_symbols, ones, Symbols, funs_at, Ending, ending, end_of, are_fit, ids_on, values_on, small_parts, typed_values, typed_end, typed_funs, typed_cons, typing, IsSmallSig}
+use Rattle.law_cli.specs.SmallTypes.{IsSmallTyped}
+use Rattle.law_cli.specs.SmallTypesReading.{Start, start, start_of, are_in_range, same_name, no_two, are_names, con_names, behind_cons, con_symbols, ones, Symbols, funs_at, Ending, ending, end_of, are_fit, ids_on, values_on, small_parts, typed_values, typed_end, typed_funs, typed_cons, typing}
 use Rattle.law_cli.proofs.SmallTypesNames.{same_true, and_first, and_second, each_tested, distinct_of}
 use Rattle.law_cli.proofs.SmallTypesAtoms.{zero_sort, plain_con}
 use Rattle.law_cli.proofs.SmallTypesFuns.{HasSort, if_some}
 use Rattle.law_cli.proofs.SmallTypesBlocks.{AreBlocks, AnyRules, FoundFuns, funs_found, funs_lines, funs_symbols, funs_constant, blocks_many}
-use Rattle.law_cli.proofs.SmallTypesSplit.{IsSplit, split_cons, split_sort, split_funs, split_numbered, split_block, skip_cons, after, con_row}
+use Rattle.law_cli.proofs.SmallTypesSplit.{IsSplit, split_cons, split_sort, split_funs, split_numbered, split_block, skip_cons, after, con_row, length-con_symbols}
 use Rattle.law_cli.proofs.SmallTypesEnds.{FoundIds, ids_found, IsPoolValue, FoundValues, values_found}
-
-some_is : {A : Type 0} (x y : A) → ◌≡◌ {A = Option A} (Some x) (Some y) → x ≡ y
-some_is x y e = cc
+use Rattle.law_laws.proofs.BodyFacts.{some_is}
 
 -- the lines that are read
 
@@ -146,10 +145,6 @@ length-ones : {A : Type 0} (xs : List A) → length (ones xs) ≡ length xs
 length-ones [] = refl
 length-ones (x ∷ xs) = ap suc (length-ones xs)
 
-pub length-cons : {A : Type 0} (xs : List A) → length (con_symbols xs) ≡ length xs
-length-cons [] = refl
-length-cons (x ∷ xs) = ap suc (length-cons xs)
-
 each_append : {A : Type 0} (P : A → Type 0) (xs ys : List A) → Each P xs → Each P ys → Each P (xs ++ ys)
 each_append P [] ys h k = k
 each_append P (x ∷ xs) ys h k = (h.0, each_append P xs ys h.1 k)
@@ -203,7 +198,7 @@ well_formed numbers sort cons end tail explored values built =
     let names : length end.names ≡ length end.symbols =
     ap length built.split.symbol_names ∙ length-append cons built.fun_names ∙ ap (λ k. length cons + k) built.split.as_many
     ∙ sym (ap length built.split.symbols ∙ length-append (con_symbols cons) (map s.Fun built.funs)
-    ∙ ap (λ k. k + length (map s.Fun built.funs)) (length-cons cons) ∙ ap (λ k. length cons + k) (length-map built.funs s.Fun)) in
+    ∙ ap (λ k. k + length (map s.Fun built.funs)) (length-con_symbols cons) ∙ ap (λ k. length cons + k) (length-map built.funs s.Fun)) in
     let few : length cons + length built.funs ≤ 16 = built.few in
     let count : length end.names ≡ length cons + length built.funs =
     ap length built.split.symbol_names ∙ length-append cons built.fun_names ∙ ap (λ k. length cons + k) built.split.as_many in
@@ -242,7 +237,7 @@ profile numbers sort cons end tail explored values built =
     let few : length cons + length built.funs ≤ 16 = built.few in
     let count : length end.symbols ≡ length cons + length built.funs =
     ap length built.split.symbols ∙ length-append (con_symbols cons) (map s.Fun built.funs)
-    ∙ ap (λ k. k + length (map s.Fun built.funs)) (length-cons cons) ∙ ap (λ k. length cons + k) (length-map built.funs s.Fun) in
+    ∙ ap (λ k. k + length (map s.Fun built.funs)) (length-con_symbols cons) ∙ ap (λ k. length cons + k) (length-map built.funs s.Fun) in
     record {
       one_sort = refl;
       few_symbols = omega (arith, count, few);
@@ -304,7 +299,7 @@ typed_as numbers sort cons end tail explored values lines built is =
 small_sig : (numbers : Numbers) (sort : List ℕ) (cons : List (List ℕ)) (end : Symbols) (tail : Ending) (explored : List SymId) (values : List Tree)
     (lines : List RawLine) (built : IsBuilt numbers sort cons end tail explored values)
     → lines ≡ whole_lines numbers sort (map con_row cons ++ (built.blocks ++ ending_lines tail))
-    → IsSmallSig lines (small_parts numbers sort end.names end.symbols explored values)
+    → IsSmallTyped lines (small_parts numbers sort end.names end.symbols explored values)
 small_sig numbers sort cons end tail explored values lines built is = record {
   first_version = ap (take 1) is;
   typed = typed_as numbers sort cons end tail explored values lines built is;
@@ -320,7 +315,7 @@ build : (numbers : Numbers) (sort : List ℕ) (cons : List (List ℕ)) (rest lin
     (values : List Tree) → Rest numbers sort cons rest lines → length cons ≤ 16
     → FoundFuns cons sort (16 - length cons) cons (con_symbols cons) rest end → end_of end.rest ≡ Some tail
     → are_fit numbers sort end.names tail.sort (length tail.values) ≡ true → ids_on end.names [] tail.names ≡ Some explored
-    → values_on cons [] tail.values ≡ Some values → IsSmallSig lines (small_parts numbers sort end.names end.symbols explored values)
+    → values_on cons [] tail.values ≡ Some values → IsSmallTyped lines (small_parts numbers sort end.names end.symbols explored values)
 build numbers sort cons rest lines end tail explored values is fits found ends fit ids pool =
     let parts : SigParts = small_parts numbers sort end.names end.symbols explored values in
     let many : length found.fun_names ≡ length found.funs = blocks_many AnyRules cons sort found.fun_names found.funs found.blocks found.are in
@@ -345,24 +340,24 @@ values_step : (numbers : Numbers) (sort : List ℕ) (cons : List (List ℕ)) (re
     (parts : SigParts) (o : Option (List Tree)) → Rest numbers sort cons rest lines → length cons ≤ 16
     → FoundFuns cons sort (16 - length cons) cons (con_symbols cons) rest end → end_of end.rest ≡ Some tail
     → are_fit numbers sort end.names tail.sort (length tail.values) ≡ true → ids_on end.names [] tail.names ≡ Some explored
-    → values_on cons [] tail.values ≡ o → option_map (small_parts numbers sort end.names end.symbols explored) o ≡ Some parts → IsSmallSig lines parts
+    → values_on cons [] tail.values ≡ o → option_map (small_parts numbers sort end.names end.symbols explored) o ≡ Some parts → IsSmallTyped lines parts
 values_step numbers sort cons rest lines end tail explored parts None is fits found ends fit ids pool h = cc
 values_step numbers sort cons rest lines end tail explored parts (Some values) is fits found ends fit ids pool h =
-    subst (IsSmallSig lines) (some_is (small_parts numbers sort end.names end.symbols explored values) parts h)
+    subst (IsSmallTyped lines) (some_is (small_parts numbers sort end.names end.symbols explored values) parts h)
     (build numbers sort cons rest lines end tail explored values is fits found ends fit ids pool)
 
 ids_step : (numbers : Numbers) (sort : List ℕ) (cons : List (List ℕ)) (rest lines : List RawLine) (end : Symbols) (tail : Ending)
     (parts : SigParts) (o : Option (List SymId)) → Rest numbers sort cons rest lines → length cons ≤ 16
     → FoundFuns cons sort (16 - length cons) cons (con_symbols cons) rest end → end_of end.rest ≡ Some tail
     → are_fit numbers sort end.names tail.sort (length tail.values) ≡ true → ids_on end.names [] tail.names ≡ o
-    → typed_values numbers sort cons end tail.values o ≡ Some parts → IsSmallSig lines parts
+    → typed_values numbers sort cons end tail.values o ≡ Some parts → IsSmallTyped lines parts
 ids_step numbers sort cons rest lines end tail parts None is fits found ends fit ids h = cc
 ids_step numbers sort cons rest lines end tail parts (Some explored) is fits found ends fit ids h =
     values_step numbers sort cons rest lines end tail explored parts (values_on cons [] tail.values) is fits found ends fit ids refl h
 
 end_step : (numbers : Numbers) (sort : List ℕ) (cons : List (List ℕ)) (rest lines : List RawLine) (end : Symbols) (parts : SigParts) (o : Option Ending)
     → Rest numbers sort cons rest lines → length cons ≤ 16 → FoundFuns cons sort (16 - length cons) cons (con_symbols cons) rest end
-    → end_of end.rest ≡ o → typed_end numbers sort cons end o ≡ Some parts → IsSmallSig lines parts
+    → end_of end.rest ≡ o → typed_end numbers sort cons end o ≡ Some parts → IsSmallTyped lines parts
 end_step numbers sort cons rest lines end parts None is fits found ends h = cc
 end_step numbers sort cons rest lines end parts (Some tail) is fits found ends h =
     let (fit, more) = if_some (are_fit numbers sort end.names tail.sort (length tail.values))
@@ -370,7 +365,7 @@ end_step numbers sort cons rest lines end parts (Some tail) is fits found ends h
     ids_step numbers sort cons rest lines end tail parts (ids_on end.names [] tail.names) is fits found ends fit refl more
 
 cons_step : (numbers : Numbers) (sort : List ℕ) (cons : List (List ℕ)) (rest lines : List RawLine) (parts : SigParts) → Rest numbers sort cons rest lines
-    → typed_cons numbers sort cons rest ≡ Some parts → IsSmallSig lines parts
+    → typed_cons numbers sort cons rest ≡ Some parts → IsSmallTyped lines parts
 cons_step numbers sort cons rest lines parts is h =
     let room : ℕ = 16 - length cons in
     let (test, more) = if_some (nat_le (length cons) 16) (option_and_then (typed_funs numbers sort cons) (funs_at cons sort room cons (con_symbols cons) rest)) parts h in
@@ -378,7 +373,7 @@ cons_step numbers sort cons rest lines parts is h =
     (λ end at ends. end_step numbers sort cons rest lines end parts (end_of end.rest) is (le_of (length cons) 16 test)
     (funs_found cons sort room cons (con_symbols cons) rest end at) refl ends)
 
-pub sound : (lines : List RawLine) (parts : SigParts) → typing lines ≡ Some parts → IsSmallSig lines parts
+pub sound : (lines : List RawLine) (parts : SigParts) → typing lines ≡ Some parts → IsSmallTyped lines parts
 sound lines parts h =
     option_and_then_some (λ (f : Start). typed_cons f.numbers f.sort (con_names f.rest) (behind_cons f.rest)) (start_of lines) parts h
     (λ from at more. cons_step from.numbers from.sort (con_names from.rest) (behind_cons from.rest) lines parts

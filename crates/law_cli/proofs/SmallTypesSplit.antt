@@ -17,7 +17,7 @@ use Rattle.law_read.specs.declared.raw.RawLine.TheVariants as line
 use Rattle.law_types.specs.Naming.{sort_name, symbol_name}
 use Rattle.law_types.specs.Typed.{Version, AreFunLines, AreNumbered, functions_from, sort_ids, sort_block, con_line}
 use Rattle.law_types.specs.Typed.Version.{first}
-use Rattle.law_cli.specs.SmallTypes.{con_symbols}
+use Rattle.law_cli.specs.SmallTypesReading.{con_symbols}
 use Rattle.law_cli.proofs.SmallTypesAtoms.{HasCons, zero_sort, plain_con}
 use Rattle.law_cli.proofs.SmallTypesBodies.{numbered, AreNamed, named_from}
 use Rattle.law_cli.proofs.SmallTypesFuns.{HasSort}
@@ -80,7 +80,7 @@ after_is : {A : Type 0} (n : ℕ) (xs : List A) → after n xs ≡ n + length xs
 after_is n [] = omega arith
 after_is n (x ∷ xs) = let e : suc n + length xs ≡ n + length (x ∷ xs) = omega arith in after_is (suc n) xs ∙ e
 
-length-con_symbols : {A : Type 0} (xs : List A) → length (con_symbols xs) ≡ length xs
+pub length-con_symbols : {A : Type 0} (xs : List A) → length (con_symbols xs) ≡ length xs
 length-con_symbols [] = refl
 length-con_symbols (x ∷ xs) = ap suc (length-con_symbols xs)
 

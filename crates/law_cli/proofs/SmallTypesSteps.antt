@@ -5,7 +5,7 @@ use Rattle.law_sig.specs.declared.parts.Fun.{Fun}
 use Rattle.law_sig.specs.declared.parts.Sym.{Sym}
 use Rattle.law_sig.specs.declared.parts.Sym.TheVariants as s
 use Rattle.law_read.specs.declared.raw.RawLine.{RawLine}
-use Rattle.law_cli.specs.SmallTypes.{FunStart, Symbols, first_fun, is_rule, funs_at, funs_end, funs_step, funs_more, start_fun, symbols_of}
+use Rattle.law_cli.specs.SmallTypesReading.{FunStart, Symbols, first_fun, is_rule, funs_at, funs_end, funs_step, funs_more, start_fun, symbols_of}
 
 pub ends_here : (cons : List (List ℕ)) (sort : List ℕ) (room : ℕ) (names : List (List ℕ)) (symbols : List Sym) (lines : List RawLine)
     → first_fun lines ≡ None → funs_at cons sort room names symbols lines ≡ Some (symbols_of names symbols lines)

@@ -2,7 +2,9 @@ ghost use Rattle.std.specs.Prelude.{◌≡◌, ◌<◌, ◌≤◌, ◌^◌, ◌+
 ghost use Rattle.std.specs.Option.{option_copied};
 ghost use Rattle.std.specs.List.{list_all, prefix_len};
 ghost use Rattle.law_sig.specs.Names.{is_letter, is_name_byte, is_word, is_name};
-ghost use Rattle.law_cli.specs.SmallTypes.{same_name, number_of, are_names, is_among, no_two, start_of, start, are_in_range, con_names, behind_cons, constant_of, atom_of, case_term, case_body, bodies_on, zero_sorts, are_all, fun_with, fun_of, fits_sort, first_fun, fun_start, is_rule, symbols_of, funs_at, holds_id, ids_on, values_on, con_symbols, ones, small_parts, are_fit, end_of, ending, typed_funs, typed_cons, typing, Answers, IsTypedSmall};
+ghost use Rattle.law_sig.specs.declared.parts.SigParts.{SigParts};
+ghost use Rattle.law_cli.specs.SmallTypes.{IsSmallTyped};
+ghost use Rattle.law_cli.specs.SmallTypesReading.{same_name, number_of, are_names, is_among, no_two, start_of, start, are_in_range, con_names, behind_cons, constant_of, atom_of, case_term, case_body, bodies_on, zero_sorts, are_all, fun_with, fun_of, fits_sort, first_fun, fun_start, is_rule, symbols_of, funs_at, holds_id, ids_on, values_on, con_symbols, ones, small_parts, are_fit, end_of, ending, typed_funs, typed_cons, typing, Answers};
 
 use law_read::{RawHead, RawLine, RawTerm};
 use law_sig::{
@@ -662,7 +664,7 @@ fn parts(alloc: Global, lines: &[RawLine]) -> Result<SigParts, Stop>
 
 /// The signature that the lines state; `None` exactly where they state none of the first version and the first profile.
 pub fn type_small(alloc: Global, lines: &[RawLine]) -> Result<Option<Sig>, NoMemory>
-    ensures { IfOk result (IsTypedSmall lines.now) }
+    ensures { IfOk result (λ found. MatchOption found ((parts : SigParts) → IsSmallTyped lines.now parts → ⊥) (λ sig. IsSmallTyped lines.now sig)) }
 {
     match parts(alloc, lines) {
         Ok(parts) => Ok(Some(Sig::build(alloc, parts)?)),

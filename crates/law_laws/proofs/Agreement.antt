@@ -1,14 +1,19 @@
 -- Having the same values is an equivalence, and a term has one least.
-use Rattle.std.proofs.Common.{◌≡◌, ◌⊎◌, inl, inr, IsSome, List, [], ◌∷◌, sym, refl, ap₂, ◌∙◌, subst}
+use Rattle.std.proofs.Common.{◌≡◌, ℕ, ◌<◌, ◌⊎◌, inl, inr, IsSome, Some, List, [], ◌∷◌, map, option_map, option_and_then, ap, sym, refl, ap₂, ◌∙◌, subst}
 use Rattle.law_sig.specs.Lists.{In, Each, Rising}
 use Rattle.law_sig.specs.Lists.In.{here, there}
-use Rattle.law_sig.specs.Tests.{Pools, Same, IsDefined, Agrees}
+use Rattle.law_sig.specs.Signature.{sort_of}
+use Rattle.law_sig.specs.Tests.{Pools, test_count, all_present, val, Same, IsDefined, Agrees}
 use Rattle.law_sig.specs.Order.{IsBefore}
 use Rattle.law_sig.specs.Laws.{IsLeast, IsLawList}
 use Rattle.law_sig.specs.declared.tree.SortId.{SortId}
+use Rattle.law_sig.specs.Evaluate.{Made, ap as applied}
+use Rattle.law_sig.specs.declared.tree.SymId.{SymId}
 use Rattle.law_sig.specs.declared.tree.Tree.{Tree}
+use Rattle.law_sig.specs.declared.tree.Tree.TheVariants.{App}
 use Rattle.law_sig.specs.declared.parts.Equation.{Equation}
 use Rattle.law_sig.specs.declared.parts.SigParts.{SigParts}
+use Rattle.law_laws.proofs.TreeFacts.{val-App}
 use Rattle.law_laws.proofs.ListFacts.{of_each, in_none, in_rest}
 use Rattle.law_laws.proofs.Orders.{never_before_itself, before_chain}
 
@@ -35,32 +40,58 @@ module _ (parts : SigParts) (pools : Pools) where
   pub agrees_chain : (s t u : Tree) → Agrees parts pools s t → Agrees parts pools t u → Agrees parts pools s u
   agrees_chain s t u a e = record { same = same_chain s t u a.same e.same; defined = a.defined }
 
-  -- what is least for a term is least for each with the same values
-  pub least_moves : (sort : SortId) (s t u : Tree) → Same parts pools s t → IsLeast parts pools sort s u → IsLeast parts pools sort t u
-  least_moves sort s t u same l = record {
+  -- what is least for a term is least for each of its sort with the same values
+  pub least_moves : (sort : SortId) (s t u : Tree) → sort_of parts t ≡ Some sort → Same parts pools s t → IsLeast parts pools sort s u → IsLeast parts pools sort t u
+  least_moves sort s t u sorted same l = record {
+    sorted = sorted;
     bounded = l.bounded;
     same = same_chain t s u (same_back s t same) l.same;
     least = λ w w_in w_same. l.least w w_in (same_chain s t w same w_same);
   }
 
-  pub one_least : (sort : SortId) (t u w : Tree) → IsLeast parts pools sort t u → IsLeast parts pools sort t w → u ≡ w
-  one_least sort t u w l m = by (l.least w m.bounded m.same) (m.least u l.bounded l.same)
+  -- terms of one sort have the same least exactly where they have the same values
+  pub same_least : (sort : SortId) (s t u w : Tree) → IsLeast parts pools sort s u → IsLeast parts pools sort t w → Same parts pools s t → u ≡ w
+  same_least sort s t u w l m same = by
+      (l.least w m.bounded (same_chain s t w same m.same))
+      (m.least u l.bounded (same_chain t s u (same_back s t same) l.same))
     where
       by : (w ≡ u) ⊎ IsBefore parts u w → (u ≡ w) ⊎ IsBefore parts w u → u ≡ w
       by (inl e) k = sym e
       by (inr h) (inl e) = e
       by (inr h) (inr k) = absurd (never_before_itself parts u (before_chain parts u w u h k))
 
-  -- terms of one sort have the same least exactly where they have the same values
-  pub same_least : (sort : SortId) (s t u w : Tree) → IsLeast parts pools sort s u → IsLeast parts pools sort t w → Same parts pools s t → u ≡ w
-  same_least sort s t u w l m same = one_least sort t u w (least_moves sort s t u same l) m
-
   pub least_same : (sort : SortId) (s t u w : Tree) → IsLeast parts pools sort s u → IsLeast parts pools sort t w → u ≡ w → Same parts pools s t
   least_same sort s t u w l m e = same_chain s u t l.same (same_back t u (subst (Same parts pools t) (sym e) m.same))
 
+  -- a term has one least
+  pub one_least : (sort : SortId) (t u w : Tree) → IsLeast parts pools sort t u → IsLeast parts pools sort t w → u ≡ w
+  one_least sort t u w l m = same_least sort t t u w l m (same_itself t)
+
   -- a least term is its own least
   pub least_itself : (sort : SortId) (t u : Tree) → IsLeast parts pools sort t u → IsLeast parts pools sort u u
-  least_itself sort t u l = least_moves sort t u u l.same l
+  least_itself sort t u l = least_moves sort t u u l.bounded.sorted l.same l
+
+-- Arguments
+
+-- each of the first list has the values of the one at its place in the second
+abbrev pub AreSame : SigParts → Pools → List Tree → List Tree → Type 0
+AreSame parts pools [] [] = Unit {0}
+AreSame parts pools [] (t ∷ ts) = ⊥
+AreSame parts pools (s ∷ ss) [] = ⊥
+AreSame parts pools (s ∷ ss) (t ∷ ts) = Same parts pools s t × AreSame parts pools ss ts
+
+same_rows : (parts : SigParts) (pools : Pools) (test : ℕ) → test < test_count parts pools → (ss ts : List Tree) → AreSame parts pools ss ts
+    → map (val parts pools test) ss ≡ map (val parts pools test) ts
+same_rows parts pools test within [] [] h = refl
+same_rows parts pools test within [] (t ∷ ts) h = absurd h
+same_rows parts pools test within (s ∷ ss) [] h = absurd h
+same_rows parts pools test within (s ∷ ss) (t ∷ ts) h = ap₂ ◌∷◌ (h.0 test within) (same_rows parts pools test within ss ts h.1)
+
+-- an application has the values that it has with such arguments
+pub same_app_args : (parts : SigParts) (pools : Pools) (f : SymId) (ss ts : List Tree) → AreSame parts pools ss ts → Same parts pools (App f ss) (App f ts)
+same_app_args parts pools f ss ts h test within = val-App parts pools test f ss
+    ∙ ap (λ vs. option_and_then (λ values. option_map (λ (m : Made). m.value) (applied parts f values parts.settings.budget)) (all_present vs)) (same_rows parts pools test within ss ts h)
+    ∙ sym (val-App parts pools test f ts)
 
 -- Two lists in strict order with the same items are the same
 

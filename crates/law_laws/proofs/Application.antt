@@ -57,7 +57,7 @@ below n zero h = absurd (omega arith)
 below n (suc d) h = (d, refl, (omega arith))
 
 mutual
-  gives_is : (parts : SigParts) {named : Named} {body : Body} {v : Tree} {n : ℕ} → Gives parts named body v n
+  pub gives_is : (parts : SigParts) {named : Named} {body : Body} {v : Tree} {n : ℕ} → Gives parts named body v n
       → (deep : ℕ) → n ≤ deep → evaluate (frame_of parts deep named) body ≡ Some (made v n)
   gives_is parts (field named body v n number e k z) deep h =
       evaluate-Field (frame_of parts deep named) body number e ∙ ap free k ∙ ap (λ c. Some (made v c)) (sym z)
@@ -70,7 +70,7 @@ mutual
       evaluate-Call (frame_of parts deep named) body f args e ∙ ap (calling (frame_of parts deep named) f) (give_all_is parts all deep (omega arith))
       ∙ ap (costing spent) (applies_is parts one deep (omega arith)) ∙ ap (λ c. Some (made v c)) (sym z)
 
-  give_all_is : (parts : SigParts) {named : Named} {bodies : List Body} {vs : List Tree} {n : ℕ} → GiveAll parts named bodies vs n
+  pub give_all_is : (parts : SigParts) {named : Named} {bodies : List Body} {vs : List Tree} {n : ℕ} → GiveAll parts named bodies vs n
       → (deep : ℕ) → n ≤ deep → all_made (map (evaluate (frame_of parts deep named)) bodies) ≡ Some (made_all vs n)
   give_all_is parts (none named) deep h = refl
   give_all_is parts (more named body bodies v vs cost spent all first rest z) deep h =

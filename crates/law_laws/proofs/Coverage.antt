@@ -81,8 +81,9 @@ covers parts pools laws listed defined has_least = record {
 }
   where
     -- the least of s is the least of t too
-    also : (sort : SortId) (s t u : Tree) → Same parts pools s t → IsLeast parts pools sort s u → IsLeast parts pools sort t u
-    also sort s t u same least = record {
+    also : (sort : SortId) (s t u : Tree) → InU parts sort t → Same parts pools s t → IsLeast parts pools sort s u → IsLeast parts pools sort t u
+    also sort s t u t_in same least = record {
+      sorted = t_in.sorted;
       bounded = least.bounded;
       same = λ test within. sym (same test within) ∙ least.same test within;
       least = λ w w_in w_same. least.least w w_in (λ test within. same test within ∙ w_same test within);
@@ -95,4 +96,4 @@ covers parts pools laws listed defined has_least = record {
       where
         by_least : (u : Tree) × IsLeast parts pools sort s u → Derivable parts (parts.settings.background ++ laws) s t
         by_least (u, least) = transitive s u t (to_least parts pools laws listed defined sort s u s_in least)
-            (symmetric t u (to_least parts pools laws listed defined sort t u t_in (also sort s t u same least)))
+            (symmetric t u (to_least parts pools laws listed defined sort t u t_in (also sort s t u t_in same least)))

@@ -12,3 +12,8 @@ pub mod Derivation
 pub mod Agreement
 pub mod Radix
 pub mod Renaming
+pub mod Universe
+pub mod Enumeration
+pub mod Inversion
+pub mod Filling
+pub mod Spelled

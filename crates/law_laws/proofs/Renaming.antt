@@ -27,11 +27,11 @@ has_width parts well sort = at_any_place (λ n. 1 ≤ n) parts.settings.width so
 
 -- Terms whose variables are below their sort's number
 
-each_true : {A : Type 0} (g : A → Bool) (xs : List A) → list_all (λ x. x) (map g xs) ≡ true → Each (λ x. g x ≡ true) xs
+pub each_true : {A : Type 0} (g : A → Bool) (xs : List A) → list_all (λ x. x) (map g xs) ≡ true → Each (λ x. g x ≡ true) xs
 each_true g [] e = tt
 each_true g (x ∷ xs) e = let p = both_true (g x) (list_all (λ x. x) (map g xs)) e in (p.0, each_true g xs p.1)
 
-all_true : {A : Type 0} (g : A → Bool) (xs : List A) → Each (λ x. g x ≡ true) xs → list_all (λ x. x) (map g xs) ≡ true
+pub all_true : {A : Type 0} (g : A → Bool) (xs : List A) → Each (λ x. g x ≡ true) xs → list_all (λ x. x) (map g xs) ≡ true
 all_true g [] have = refl
 all_true g (x ∷ xs) have = ap₂ ◌&&◌ have.0 (all_true g xs have.1)
 

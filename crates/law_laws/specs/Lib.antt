@@ -4,3 +4,4 @@ pub mod Application
 pub mod Derivation
 pub mod Agreement
 pub mod Renaming
+pub mod Filling

@@ -1,21 +1,27 @@
 //! Laws of the definitions of `law_sig`: each function has an empty body, and its contract is the law.
 #![tactic(auto)]
 
-ghost use Rattle.law_laws.specs.Agreement.{AgreementIsShared, LeastTellsValues, OneLawList};
+ghost use Rattle.law_laws.specs.Agreement.{AgreementIsPartialEquivalence, LeastTellsValues, OneLawList};
 ghost use Rattle.law_laws.specs.Application.{ComputedIsGiven, GivenIsComputed, OneValue, DepthChangesNothing, BudgetBoundsCost};
-ghost use Rattle.law_laws.specs.Coverage.{ListCovers};
+ghost use Rattle.law_laws.specs.Coverage.{ListCovers, LeastExists, ListInBudgetCovers};
 ghost use Rattle.law_laws.specs.Derivation.{DerivationKeepsSorts, InstancesAreDerivable, DerivableEquationsAddNothing};
-ghost use Rattle.law_laws.specs.Orders.{OrdersAreTotal, EqualIsSame, FallsWithArgument, DescentsEnd};
+ghost use Rattle.law_laws.specs.Filling.{NumberedTermsFill};
+ghost use Rattle.law_laws.specs.Orders.{OrdersAreSpelled, ExploringFollowsWeight, OrdersAreTotal, EqualIsSame, FallsWithArgument, DescentsEnd};
 ghost use Rattle.law_laws.specs.Renaming.{TestsAreRenamed, FlatTestsSeeSchemas};
 
-/// The law list covers, where every term of the universe has a value at every test and a least one.
+/// The law list covers, where every term of the universe has a value at every test and a least one; and each has a least
+/// one where nothing is over budget.
 pub fn coverage_laws()
-    ensures { ListCovers }
+    ensures covers { ListCovers }
+    ensures least { LeastExists }
+    ensures in_budget { ListInBudgetCovers }
 {}
 
-/// The orders of terms are total, equal only at the same term, and fall where an argument does; and every descent in
-/// the order of exploring ends.
+/// What the orders of terms compare, step by step. They follow the weight, are total, equal only at the same term, and
+/// fall where an argument does; and every descent in the order of exploring ends.
 pub fn order_laws()
+    ensures spelled { OrdersAreSpelled }
+    ensures weight { ExploringFollowsWeight }
     ensures total { OrdersAreTotal }
     ensures equal { EqualIsSame }
     ensures falls { FallsWithArgument }
@@ -41,14 +47,15 @@ pub fn derivation_laws()
 /// Agreement is symmetric and transitive, terms of one sort with the same values have the same least term, and there is
 /// one law list.
 pub fn agreement_laws()
-    ensures shared { AgreementIsShared }
+    ensures equivalence { AgreementIsPartialEquivalence }
     ensures least { LeastTellsValues }
     ensures one { OneLawList }
 {}
 
 /// The tests are closed under renaming the variables of each sort, and a flat test gives a term and its schema the same
-/// value.
+/// value; and a term whose variables are numbered from the left becomes any term of its schema by a renaming.
 pub fn test_laws()
     ensures renamed { TestsAreRenamed }
     ensures flat { FlatTestsSeeSchemas }
+    ensures filled { NumberedTermsFill }
 {}

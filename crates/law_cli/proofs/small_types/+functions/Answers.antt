@@ -1,5 +1,5 @@
 use Rattle.std.proofs.Common.{rules, ◌≡◌, ◌<◌, ◌-◌, Some, None, IfOk, IfErr, arith, sym, refl, subst, Option}
-use Rattle.law_cli.specs.SmallTypes.{Symbols, symbols_of, funs_at}
+use Rattle.law_cli.specs.SmallTypesReading.{Symbols, symbols_of, funs_at}
 use Rattle.law_cli.specs.declared.small_types.Stop.TheVariants as stop
 use Rattle.law_cli.proofs.SmallTypesSteps.{no_fun, one_more_of}
 use Rattle.law_cli.proofs.small_types.+functions.Goals as goal

@@ -1,5 +1,5 @@
 use Rattle.std.proofs.Common.{◌≡◌, drop}
-use Rattle.law_cli.specs.SmallTypes.{are_all}
+use Rattle.law_cli.specs.SmallTypesReading.{are_all}
 use Rattle.law_cli.proofs.small_types.are_all.Given as goal
 
 abbrev pub invariant-loop-other : goal.invariant-loop-other

@@ -1,5 +1,5 @@
 use Rattle.std.proofs.Common.{◌≡◌, drop, []}
-use Rattle.law_cli.specs.SmallTypes.{bodies_on}
+use Rattle.law_cli.specs.SmallTypesReading.{bodies_on}
 use Rattle.law_cli.proofs.small_types.bodies.Given as goal
 
 abbrev pub invariant-loop-con : goal.invariant-loop-con

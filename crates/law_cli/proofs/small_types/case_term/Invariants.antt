@@ -1,5 +1,5 @@
 use Rattle.std.proofs.Common.{◌≡◌, drop}
-use Rattle.law_cli.specs.SmallTypes.{case_term}
+use Rattle.law_cli.specs.SmallTypesReading.{case_term}
 use Rattle.law_cli.proofs.small_types.case_term.Given as goal
 
 abbrev pub invariant-loop-line : goal.invariant-loop-line

@@ -1,5 +1,5 @@
 use Rattle.std.proofs.Common.{◌≡◌, ◌++◌, length}
-use Rattle.law_cli.specs.SmallTypes.{con_names, behind_cons}
+use Rattle.law_cli.specs.SmallTypesReading.{con_names, behind_cons}
 use Rattle.law_cli.proofs.small_types.con_names.Given as goal
 
 abbrev pub invariant-loop-rest : goal.invariant-loop-rest

@@ -1,5 +1,5 @@
 use Rattle.std.proofs.Common.{◌≡◌, take}
-use Rattle.law_cli.specs.SmallTypes.{con_symbols}
+use Rattle.law_cli.specs.SmallTypesReading.{con_symbols}
 use Rattle.law_cli.proofs.small_types.con_symbols.Given as goal
 
 abbrev pub invariant-loop-name : goal.invariant-loop-name

@@ -1,5 +1,5 @@
 use Rattle.std.proofs.Common.{◌≡◌, drop}
-use Rattle.law_cli.specs.SmallTypes.{holds_id}
+use Rattle.law_cli.specs.SmallTypesReading.{holds_id}
 use Rattle.law_cli.proofs.small_types.holds_id.Given as goal
 
 abbrev pub invariant-loop-other : goal.invariant-loop-other

@@ -1,5 +1,5 @@
 use Rattle.std.proofs.Common.{◌≡◌, drop, []}
-use Rattle.law_cli.specs.SmallTypes.{ids_on}
+use Rattle.law_cli.specs.SmallTypesReading.{ids_on}
 use Rattle.law_cli.proofs.small_types.ids.Given as goal
 
 abbrev pub invariant-loop-name : goal.invariant-loop-name

@@ -1,5 +1,5 @@
 use Rattle.std.proofs.Common.{◌≡◌, drop}
-use Rattle.law_cli.specs.SmallTypes.{is_among}
+use Rattle.law_cli.specs.SmallTypesReading.{is_among}
 use Rattle.law_cli.proofs.small_types.is_among.Given as goal
 
 abbrev pub invariant-loop-other : goal.invariant-loop-other

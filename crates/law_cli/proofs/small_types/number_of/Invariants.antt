@@ -1,6 +1,6 @@
 use Rattle.std.proofs.Common.{◌≡◌, drop}
 use Rattle.std.specs.List.{position_from}
-use Rattle.law_cli.specs.SmallTypes.{same_name, number_of}
+use Rattle.law_cli.specs.SmallTypesReading.{same_name, number_of}
 use Rattle.law_cli.proofs.small_types.number_of.Given as goal
 
 abbrev pub invariant-loop-at : goal.invariant-loop-at

@@ -1,5 +1,5 @@
 use Rattle.std.proofs.Common.{◌≡◌, take}
-use Rattle.law_cli.specs.SmallTypes.{ones}
+use Rattle.law_cli.specs.SmallTypesReading.{ones}
 use Rattle.law_cli.proofs.small_types.ones.Given as goal
 
 abbrev pub invariant-loop-symbol : goal.invariant-loop-symbol

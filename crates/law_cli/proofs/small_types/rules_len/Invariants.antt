@@ -1,6 +1,6 @@
 use Rattle.std.proofs.Common.{◌≡◌, ◌+◌, drop}
 use Rattle.std.specs.List.{prefix_len}
-use Rattle.law_cli.specs.SmallTypes.{is_rule}
+use Rattle.law_cli.specs.SmallTypesReading.{is_rule}
 use Rattle.law_cli.proofs.small_types.rules_len.Given as goal
 
 abbrev pub invariant-loop-line : goal.invariant-loop-line

@@ -1,5 +1,5 @@
 use Rattle.std.proofs.Common.{◌≡◌, drop}
-use Rattle.law_cli.specs.SmallTypes.{same_name}
+use Rattle.law_cli.specs.SmallTypesReading.{same_name}
 use Rattle.law_cli.proofs.small_types.same_name.Given as goal
 
 abbrev pub invariant-loop-at : goal.invariant-loop-at

@@ -1,5 +1,5 @@
 use Rattle.std.proofs.Common.{◌≡◌, drop, []}
-use Rattle.law_cli.specs.SmallTypes.{values_on}
+use Rattle.law_cli.specs.SmallTypesReading.{values_on}
 use Rattle.law_cli.proofs.small_types.values.Given as goal
 
 abbrev pub invariant-loop-term : goal.invariant-loop-term

@@ -1,5 +1,5 @@
 use Rattle.std.proofs.Common.{◌≡◌, take}
-use Rattle.law_cli.specs.SmallTypes.{zero_sorts}
+use Rattle.law_cli.specs.SmallTypesReading.{zero_sorts}
 use Rattle.law_cli.proofs.small_types.zero_sorts.Given as goal
 
 abbrev pub invariant-loop-name : goal.invariant-loop-name
