@@ -1,9 +1,11 @@
 -- Names among names.
-use Rattle.std.proofs.Common.{◌≡◌, ◌≢◌, ℕ, zero, suc, ◌+◌, ◌<◌, List, [], ◌∷◌, length, get_or, Bool, true, false, ◌&&◌, ◌||◌, IsTrue, Some, cond, refl, sym, ap, ◌∙◌, subst, rules, arith, not}
+use Rattle.std.proofs.Common.{◌≡◌, ◌≢◌, ℕ, zero, suc, ◌+◌, ◌<◌, List, [], ◌∷◌, length, get_or, Bool, true, false, ◌&&◌, ◌||◌, nat_le, IsTrue, Some, cond, refl, sym, ap, ◌∙◌, subst, rules, arith, not}
 use Rattle.std.specs.Prelude.{◌==◌}
 use Rattle.std.specs.List.{list_all, position_from}
 use Rattle.law_sig.specs.Lists.{Each, AreDistinct}
 use Rattle.law_cli.specs.SmallTypesReading.{same_name, number_of, is_among, no_two}
+use Rattle.law_sig.specs.Names as n
+use Rattle.law_text.specs.Words as t
 
 pub same_itself : (xs : List ℕ) → same_name xs xs ≡ true
 same_itself [] = refl
@@ -132,3 +134,19 @@ at_from (n ∷ ns) i (suc j) d h =
 -- where names are distinct, what stands at a place is found there
 pub number_at : (names : List (List ℕ)) (k : ℕ) → AreDistinct names → k < length names → number_of names (get_or names k []) ≡ Some k
 number_at names k d h = let e : 0 + k ≡ k = omega arith in at_from names 0 k d h ∙ ap Some e
+
+-- the names of a text are the names of a signature
+
+or_joined : (a b c : Bool) → ((a || b) || c) ≡ (a || (b || c))
+or_joined true b c = refl
+or_joined false b c = refl
+
+same_bytes : (bytes : List ℕ) → list_all t.is_name_byte bytes ≡ list_all n.is_name_byte bytes
+same_bytes [] = refl
+same_bytes (b ∷ bytes) =
+    ap (λ x. x && list_all t.is_name_byte bytes) (or_joined (t.is_letter b) (t.is_digit b) (b == 95))
+    ∙ ap (λ x. n.is_name_byte b && x) (same_bytes bytes)
+
+pub same_spelling : (word : List ℕ) → t.is_name word ≡ n.is_name word
+same_spelling [] = refl
+same_spelling (b ∷ bytes) = ap (λ x. (t.is_letter b && x) && nat_le (length (b ∷ bytes)) 32) (same_bytes bytes)

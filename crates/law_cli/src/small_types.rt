@@ -1,7 +1,7 @@
 ghost use Rattle.std.specs.Prelude.{◌≡◌, ◌<◌, ◌≤◌, ◌^◌, ◌+◌, ◌-◌, ◌++◌, ◌∷◌, ◌&&◌, ◌==◌, nat_lt, nat_le, Some, None, [], length, map, take, drop, MatchOption, MatchResult, IfOk, IfErr, IsTrue};
 ghost use Rattle.std.specs.Option.{option_copied};
 ghost use Rattle.std.specs.List.{list_all, prefix_len};
-ghost use Rattle.law_sig.specs.Names.{is_letter, is_name_byte, is_word, is_name};
+ghost use Rattle.law_sig.specs.Names.{is_name};
 ghost use Rattle.law_sig.specs.declared.parts.SigParts.{SigParts};
 ghost use Rattle.law_cli.specs.SmallTypes.{IsSmallTyped};
 ghost use Rattle.law_cli.specs.SmallTypesReading.{same_name, number_of, are_names, is_among, no_two, start_of, start, are_in_range, con_names, behind_cons, constant_of, atom_of, case_term, case_body, bodies_on, zero_sorts, are_all, fun_with, fun_of, fits_sort, first_fun, fun_start, is_rule, symbols_of, funs_at, holds_id, ids_on, values_on, con_symbols, ones, small_parts, are_fit, end_of, ending, typed_funs, typed_cons, typing, Answers};
@@ -41,38 +41,10 @@ struct Numbers {
     pairs: u64,
 }
 
-fn is_letter(byte: u8) -> bool
-    ensures { result ≡ is_letter byte }
-{
-    (65 <= byte && byte <= 90) || (97 <= byte && byte <= 122)
-}
-
-fn is_name_byte(byte: u8) -> bool
-    ensures { result ≡ is_name_byte byte }
-{
-    is_letter(byte) || ((48 <= byte && byte <= 57) || byte == 95)
-}
-
-fn are_name_bytes(bytes: &[u8]) -> bool
-    ensures { result ≡ list_all is_name_byte bytes.now }
-{
-    bytes.iter().all(|byte| is_name_byte(*byte))
-}
-
-/// Whether bytes are a letter, and then letters, digits and low lines.
-fn is_word(bytes: &[u8]) -> bool
-    ensures { result ≡ is_word bytes.now }
-{
-    match bytes {
-        [] => false,
-        [first, others @ ..] => is_letter(*first) && are_name_bytes(others),
-    }
-}
-
 fn is_name(name: &Text) -> bool
     ensures { result ≡ is_name name.now }
 {
-    is_word(name.as_slice()) && name.len() <= 32
+    law_text::is_name(name.as_slice())
 }
 
 /// Whether two names are the same.
