@@ -41,6 +41,7 @@ struct Numbers {
     pairs: u64,
 }
 
+/// Whether a name is spelled as one.
 fn is_name(name: &Text) -> bool
     ensures { result ≡ is_name name.now }
 {
@@ -75,6 +76,7 @@ fn number_of(names: &[Text], name: &Text) -> Option<u32>
     None
 }
 
+/// Whether a name stands among names.
 fn is_among(names: &[Text], name: &Text) -> bool
     ensures { result ≡ is_among names.now name.now }
 {
@@ -426,6 +428,7 @@ fn functions<'a>(
     }
 }
 
+/// Whether a symbol's number stands among these.
 fn holds_id(ids: &[SymId], id: u32) -> bool
     ensures { result ≡ holds_id ids.now id }
 {
@@ -484,6 +487,7 @@ fn con_symbols(alloc: Global, names: &[Text]) -> Result<Seq<Sym>, NoMemory>
     Ok(symbols)
 }
 
+/// Names of their own that equal these.
 fn copy_names(alloc: Global, names: &[Text]) -> Result<Seq<Text>, NoMemory>
     ensures { IfOk result (λ copies. copies ≡ names.now) }
 {
@@ -505,6 +509,7 @@ fn ones(alloc: Global, symbols: &[Sym]) -> Result<Seq<u32>, NoMemory>
     Ok(weights)
 }
 
+/// The list of one item.
 fn one<T: Drop>(alloc: Global, item: T) -> Result<Seq<T>, NoMemory>
     ensures { IfOk result (λ items. items ≡ item ∷ []) }
 {
