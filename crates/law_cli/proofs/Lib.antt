@@ -5,3 +5,14 @@ pub mod SmallReadCuts
 pub mod SmallReadOrders
 pub mod SmallReadWords
 pub mod SmallReadLines
+pub mod SmallTypesNames
+pub mod SmallTypesSteps
+pub mod SmallTypesAtoms
+pub mod SmallTypesCases
+pub mod SmallTypesBodies
+pub mod SmallTypesFuns
+pub mod SmallTypesBlocks
+pub mod SmallTypesSplit
+pub mod SmallTypesEnds
+pub mod SmallTypesSound
+pub mod SmallTypesComplete

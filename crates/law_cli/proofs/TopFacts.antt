@@ -1,7 +1,6 @@
 -- Facts for the top call: one word, and what the input was.
-use Rattle.std.proofs.Common.{◌≡◌, ℕ, ◌<◌, ◌≤◌, List, [], ◌∷◌, ◌++◌, length, Option, Some, None, slice_index_or, arith, sym, ap, ◌∙◌, subst, refl}
-use Rattle.std.specs.Io.KnownBytes.{Consumes, IsAtEnd}
-use Rattle.law_cli.specs.Reading.{WasRead, IsLonger}
+use Rattle.std.proofs.Common.{◌≡◌, ℕ, List, [], ◌∷◌, ◌++◌, length, Option, Some, None, slice_index_or, arith, sym, ap, ◌∙◌, subst, refl}
+use Rattle.law_cli.specs.Reading.{WasRead}
 use Rattle.law_cli.specs.Small.{IsSmall}
 use Rattle.law_cli.specs.Promise.{IsNotSmall}
 

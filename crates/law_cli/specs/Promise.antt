@@ -1,5 +1,5 @@
 -- What the top call promises.
-use Rattle.std.specs.Prelude.{◌≡◌, ◌≢◌, ℕ, ◌<◌, ◌⊎◌, ⊤, List, [], ◌∷◌, ◌++◌, codes, Option, Some, None}
+use Rattle.std.specs.Prelude.{◌≡◌, ℕ, ◌⊎◌, ⊤, List, [], ◌∷◌, codes, Option, Some, None}
 use Rattle.std.specs.Io.KnownBytes.{IsAtEnd}
 use Rattle.law_io.specs.Takings.{Taken, Grows, GrewByPrefix}
 use Rattle.law_io.specs.Counts.{Rose}
@@ -11,7 +11,6 @@ use Rattle.law_sig.specs.declared.parts.SigParts.{SigParts}
 use Rattle.law_read.specs.declared.raw.RawLine.{RawLine}
 use Rattle.law_cli.specs.Small.{IsSmallText, IsSmall}
 use Rattle.law_cli.specs.Printed.{status_text, list_spelling}
-use Rattle.law_cli.specs.declared.status.Status.{Status}
 use Rattle.law_cli.specs.declared.status.Status.TheVariants as status
 
 -- the words are the one word `plain`
