@@ -21,14 +21,13 @@ use Rattle.law_sig.specs.declared.parts.SigParts.{SigParts}
 use Rattle.law_laws.proofs.ListFacts.{of_each, each_map}
 use Rattle.law_laws.proofs.Descents.{at_any_place}
 use Rattle.law_laws.proofs.TreeFacts.{tree_induct, tree_cases, same_app, fold-Var, fold-App, val-Var, val-App, bounded-Var, bounded-App}
-use Rattle.law_laws.proofs.Sorts.{HaveSorts, sorted_app, sorted_var}
+use Rattle.law_laws.proofs.Sorts.{HaveSorts, sorted_app, sorted_var, both_true as both}
 use Rattle.law_explore.specs.Rows.{each_below}
 use Rattle.law_explore.specs.Universe.{IsUniverse}
 use Rattle.law_explore.specs.Tells.{Tells}
 use Rattle.law_explore.specs.Profile.{IsFirstProfile}
 use Rattle.law_explore.specs.Constants.{only_sort, constant, number_of, tests_with, tests_of, place_in, number_at, value, value_step, vector}
 use Rattle.law_explore.proofs.Rising.{at_place}
-use Rattle.law_explore.proofs.SortFacts.{both}
 use Rattle.law_explore.proofs.ProfileFacts.{only, IsNumber, application_is, value_is}
 
 -- Digits of at most two variables of one width

@@ -51,7 +51,7 @@ first_variables parts = each_below (length parts.sort_names) (λ i. first_variab
 abbrev pub over_each : SymId → List (List Tree) → List Tree
 over_each f lists = map (λ args. App f args) lists
 
--- the schemas of this weight with a symbol on top, made from those listed
+-- the schemas of this weight with this symbol on top, made from those listed
 abbrev pub applications_of : SigParts → List (List Tree) → ℕ → SymId → Option Sym → List Tree
 applications_of parts levels weight f None = []
 applications_of parts levels weight f (Some symbol) =
@@ -59,6 +59,7 @@ applications_of parts levels weight f (Some symbol) =
     then over_each f (rows_of (of_weight parts levels) (args_of symbol) (weight - weight_at parts f))
     else []
 
+-- the same for a symbol by its number
 abbrev pub applications : SigParts → List (List Tree) → ℕ → SymId → List Tree
 applications parts levels weight f = applications_of parts levels weight f (symbol_at parts f)
 
@@ -79,11 +80,12 @@ levels_to parts (suc n) = levels_to parts n ++ level parts (levels_to parts n) (
 abbrev pub variables_of : SigParts → SortId → List Tree
 variables_of parts sort = each_below (vars_at parts sort) (λ i. Var sort i ∷ [])
 
--- the instances of a schema: each of its holes filled with each variable of its sort, the first hole counting most
+-- each hole filled with each variable of its sort
 abbrev pub instances_step : SigParts → Tree-F (List Tree) → List Tree
 instances_step parts (o.Var sort index) = variables_of parts sort
 instances_step parts (o.App head lists) = over_each head (choices lists)
 
+-- the instances of a schema: each of its holes filled with each variable of its sort, the first hole counting most
 abbrev pub instances : SigParts → Tree → List Tree
 instances parts = fold-Tree (List Tree) (instances_step parts)
 
