@@ -139,6 +139,15 @@ fn failing_calls(rt: HostRuntime) -> Result<(), Fail> {
             assert!(rt; sink.bytes.is_empty());
         }
     }
+    let wrong = "signature 9\nsignature 9\nsignature 9\n";
+    let mut source = MemSource::new(
+        Vec::from_slice(alloc, wrong.as_bytes())?,
+        16,
+        vec![in alloc; 2]?,
+    );
+    let mut sink = MemSink::new(alloc, 16, 4096, Vec::new(alloc))?;
+    let status = run(alloc, words.as_slice(), &mut source, &mut sink);
+    assert_eq!(rt; code(&status), 7);
     for call in 0..40u64 {
         let mut source = MemSource::new(
             Vec::from_slice(alloc, NOT.as_bytes())?,
