@@ -1,0 +1,12 @@
+-- Each law is proved by a lemma.
+use Rattle.law_laws.proofs.Orders.{compare_k_total, explore_total, one_tree_k, one_tree_explore, replaced_before_k, replaced_before}
+use Rattle.law_laws.proofs.Descents.{descent_ends}
+use Rattle.law_laws.proofs.order_laws.Goals as goal
+
+pub returns : goal.returns
+returns c = record {
+  total = λ parts. record { k = compare_k_total parts; exploring = explore_total parts };
+  equal = λ parts s t. record { k = one_tree_k parts s t; exploring = one_tree_explore parts s t };
+  falls = λ parts f before after s t. record { k = replaced_before_k parts f before after s t; exploring = replaced_before parts f before after s t };
+  ends = descent_ends;
+}

@@ -1,0 +1,7 @@
+pub mod Coverage
+pub mod Orders
+pub mod Application
+pub mod Derivation
+pub mod Agreement
+pub mod Renaming
+pub mod Filling

@@ -1,0 +1,28 @@
+/// What kind of line a line is: the variant of its `RawLine`, without its contents.
+#[derive(Clone, Copy, Debug, PartialEq, Eq)]
+pub enum Shape {
+    Head,
+    Head2,
+    Head3,
+    Vars,
+    Size,
+    Width,
+    Budget,
+    Pairs,
+    PoolsGiven,
+    PoolsSeed,
+    SortLine,
+    SortLine2,
+    ConLine,
+    ConLine3,
+    FunLine,
+    FunLine3,
+    MatchLine,
+    BodyLine,
+    CaseLine,
+    Explore,
+    Background,
+    Pool,
+    Values,
+    End,
+}
