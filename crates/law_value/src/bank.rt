@@ -66,6 +66,13 @@ impl ValueBank {
         a.0 == b.0
     }
 
+    /// Does nothing. Its contract says of any bank that no two of its ids have one value.
+    pub fn shared(&self)
+        ensures { IsShared self.now }
+    {
+        let _ = &self.cells;
+    }
+
     /// The cell of an id.
     fn cell(&self, id: ValueId) -> &Cell
         requires { IsOf self.now id }

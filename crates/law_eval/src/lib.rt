@@ -1,0 +1,11 @@
+//! What applying a symbol to values gives, and exactly what it costs, within a budget.
+#![tactic(auto)]
+
+
+
+mod error;
+
+mod work;
+
+
+pub use error::EvalErr;
