@@ -1,11 +1,9 @@
 //! What applying a symbol to values gives, and exactly what it costs, within a budget.
 #![tactic(auto)]
 
-
-
+mod choose;
 mod error;
-
+mod steps;
 mod work;
-
 
 pub use error::EvalErr;
