@@ -5,3 +5,5 @@ pub mod BodyFacts
 pub mod TookFacts
 pub mod StuckFacts
 pub mod ResultFacts
+pub mod ChosenFacts
+pub mod Chain

@@ -20,10 +20,10 @@ use Rattle.law_sig.specs.declared.parts.SigParts.{SigParts}
 use Rattle.law_value.specs.declared.bank.ValueId.{ValueId}
 use Rattle.law_value.specs.Values.{IsOf, AreOf, tree_of, trees_of, fields_of, Grows}
 use Rattle.law_value.proofs.BankFacts.{tree_stays, id_stays, trees_stay, ids_stay, held_more, trees_more}
-use Rattle.law_eval.specs.Work.{Todo, Running, Ids, spread_out, IsAdded, IsFirst}
+use Rattle.law_eval.specs.Work.{Todo, Running, Ids, spread_out, IsAdded, IsFirst, IsTaken, IsLeft, IsSpread}
 use Rattle.law_eval.specs.Work.Todo.{eval, each, build, apply, leave}
 use Rattle.law_eval.specs.Runs.{State, matched_fields, named_of, seen, Steps}
-use Rattle.law_eval.specs.Took.{IsMatchedOf, IsFrameOf, IsSmall, IsSound, weight_of, steps_left, on_top, Took}
+use Rattle.law_eval.specs.Took.{IsMatchedOf, IsFrameOf, IsSmall, IsSound, weight_of, steps_left, on_top, IsBuilt, IsChosen, Took}
 use Rattle.law_eval.proofs.Tops.{same_ids}
 use Rattle.law_eval.proofs.Parts.{field_parts, param_parts}
 use Rattle.law_eval.proofs.BodyFacts.{nodes-Make, nodes-Call, some_nodes}
@@ -218,3 +218,49 @@ param_took parts bank body number old new v o found added sound =
       (param (named_of bank found.0) body (tree_of bank v) 0 number o tree refl)
       (λ w c gives. let is = param_parts parts number o gives in (some_tree w (tree_of bank v) (sym is.0 ∙ tree), is.1))
       (held_at bank found.0.params number v found.2 sound'.frames.0.params) sound')
+
+pub built_took : (parts : SigParts) (bank bank' : List Tree) (f : SymId) (count : ℕ) (old new : Ids) → IsBuilt bank bank' old f count new → Grows bank bank'
+    → IsSound bank (on_top (build f count) old) → Took parts bank bank' (on_top (build f count) old) new
+built_took parts bank bank' f count old new built grows sound =
+    let before : on_top (build f count) old ≡ ids (build f count ∷ old.tasks) (built.row ∷ built.below ∷ built.rows) old.frames (built.left + 1) = same_ids refl built.before refl built.pays in
+    took_by parts bank bank' before built.after
+    (subst (λ (l : List Tree). Took parts bank l (ids (build f count ∷ old.tasks) (built.row ∷ built.below ∷ built.rows) old.frames (built.left + 1))
+        (ids old.tasks ((built.below ++ built.value ∷ []) ∷ built.rows) old.frames built.left)) (sym grows.1)
+      (build_took parts bank grows.0 old.tasks built.row built.below built.rows old.frames built.left f count built.value built.fits
+        (subst (λ (l : List Tree). IsOf l built.value) grows.1 built.of_bank) (ap (λ (l : List Tree). tree_of l built.value) (sym grows.1) ∙ built.tree)
+        (subst (IsSound bank) before sound)))
+
+pub applied_took : (parts : SigParts) (bank bank' : List Tree) (f : SymId) (count : ℕ) (con : Con) (old new : Ids) → symbol_at parts f ≡ Some (sym_is.Con con)
+    → IsBuilt bank bank' old f count new → Grows bank bank' → IsSound bank (on_top (apply f count) old) → Took parts bank bank' (on_top (apply f count) old) new
+applied_took parts bank bank' f count con old new declared built grows sound =
+    let before : on_top (apply f count) old ≡ ids (apply f count ∷ old.tasks) (built.row ∷ built.below ∷ built.rows) old.frames (built.left + 1) = same_ids refl built.before refl built.pays in
+    took_by parts bank bank' before built.after
+    (subst (λ (l : List Tree). Took parts bank l (ids (apply f count ∷ old.tasks) (built.row ∷ built.below ∷ built.rows) old.frames (built.left + 1))
+        (ids old.tasks ((built.below ++ built.value ∷ []) ∷ built.rows) old.frames built.left)) (sym grows.1)
+      (con_took parts bank grows.0 old.tasks built.row built.below built.rows old.frames built.left f count con built.value declared built.fits
+        (subst (λ (l : List Tree). IsOf l built.value) grows.1 built.of_bank) (ap (λ (l : List Tree). tree_of l built.value) (sym grows.1) ∙ built.tree)
+        (subst (IsSound bank) before sound)))
+
+pub began_took : (parts : SigParts) (bank : List Tree) (f : SymId) (count : ℕ) (fun : Fun) (old taken paid new : Ids) (row : List ValueId) (body : Body) (matched : Option ValueId)
+    → symbol_at parts f ≡ Some (sym_is.Fun fun) → IsTaken old row count taken → taken ≡ record paid { left = paid.left + 1 } → IsChosen parts bank fun row body matched → body_nodes body ≤ 4096
+    → new ≡ record paid { tasks = eval body ∷ leave ∷ paid.tasks; frames = record { matched = matched; params = row } ∷ paid.frames }
+    → IsSound bank (on_top (apply f count) old) → Took parts bank bank (on_top (apply f count) old) new
+began_took parts bank f count fun old taken paid new row body matched declared took pays choice small after sound =
+    let was : old ≡ ids paid.tasks (row ∷ paid.rows) paid.frames (paid.left + 1) = took.before ∙ ap (λ (i : Ids). record i { rows = row ∷ i.rows }) pays in
+    let before : on_top (apply f count) old ≡ ids (apply f count ∷ paid.tasks) (row ∷ paid.rows) paid.frames (paid.left + 1) = ap (on_top (apply f count)) was in
+    took_by parts bank bank before after
+    (enter_took parts bank paid.tasks row paid.rows paid.frames paid.left f count fun body matched declared choice.is took.fits small choice.of_bank (subst (IsSound bank) before sound))
+
+pub spread_taken : (parts : SigParts) (bank : List Tree) (bodies : List Body) (old new : Ids) → IsSpread old bodies new → IsSound bank (on_top (each bodies) old)
+    → Took parts bank bank (on_top (each bodies) old) new
+spread_taken parts bank bodies old new spread sound =
+    let before : on_top (each bodies) old ≡ ids (each bodies ∷ old.tasks) (spread.row ∷ spread.rows) (spread.frame ∷ spread.frames) old.left = same_ids refl spread.has_row spread.has_frame refl in
+    let after : new ≡ ids (spread_out bodies old.tasks) (spread.row ∷ spread.rows) (spread.frame ∷ spread.frames) old.left = spread.after ∙ same_ids refl spread.has_row spread.has_frame refl in
+    took_by parts bank bank before after
+    (spread_took parts bank old.tasks spread.row spread.rows spread.frame spread.frames old.left bodies (subst (IsSound bank) before sound))
+
+pub left_took : (parts : SigParts) (bank : List Tree) (old new : Ids) → IsLeft old new → IsSound bank (on_top leave old) → Took parts bank bank (on_top leave old) new
+left_took parts bank old new left sound =
+    let before : on_top leave old ≡ ids (leave ∷ new.tasks) new.rows (left.frame ∷ new.frames) new.left = ap (on_top leave) left.before in
+    took_by parts bank bank before refl
+    (leave_took parts bank new.tasks new.rows left.frame new.frames new.left (subst (IsSound bank) before sound))

@@ -10,7 +10,7 @@ use Rattle.law_sig.specs.declared.parts.Fun.{Fun}
 use Rattle.law_sig.specs.declared.tree.Body.{Body}
 use Rattle.law_sig.specs.declared.parts.SigParts.{SigParts}
 use Rattle.law_value.specs.declared.bank.ValueId.{ValueId}
-use Rattle.law_value.specs.Values.{IsOf, AreOf, tree_of, trees_of}
+use Rattle.law_value.specs.Values.{IsOf, AreOf, tree_of, trees_of, Grows}
 use Rattle.law_eval.specs.Work.{Todo, Running, Ids}
 use Rattle.law_eval.specs.Work.Todo.{eval, each, build, apply, leave}
 use Rattle.law_eval.specs.Runs.{seen, matched_fields, Steps}
@@ -82,3 +82,9 @@ pub record IsBuilt (bank bank' : List Tree) (old : Ids) (f : SymId) (count : ℕ
 -- where there are two rows, and the first has so many values, nothing is left of the budget
 abbrev pub LacksRows : Ids → ℕ → Type 0
 LacksRows ids count = (row below : List ValueId) (rows : List (List ValueId)) → ids.rows ≡ row ∷ below ∷ rows → length row ≡ count → ids.left ≡ 0
+
+-- what was done so far: one state has led to another, in a bank that has grown
+pub record IsRun (parts : SigParts) (bank : List Tree) (old : Ids) (bank' : List Tree) (new : Ids) : Type 0 where
+  pub steps : Steps parts (seen bank old) (seen bank' new)
+  pub sound : IsSound bank' new
+  pub grows : Grows bank bank'

@@ -1,4 +1,4 @@
-ghost use Rattle.std.specs.Prelude.{◌≡◌, None, slice_get, option_and_then, IsTrue, MatchOption};
+ghost use Rattle.std.specs.Prelude.{◌≡◌, None, slice_get, option_and_then, position, IsTrue, MatchOption};
 ghost use Rattle.std.specs.List.{position_from};
 ghost use Rattle.std.specs.Option.{option_copied};
 ghost use Rattle.law_sig.specs.Lists.{Each};
@@ -19,12 +19,21 @@ pub struct Choice<'s> {
     pub matched: Option<ValueId>,
 }
 
+/// Where a constructor stands among these.
+fn place_of(constructors: &[SymId], head: SymId) -> Option<usize>
+    ensures { result ≡ position (same_symbol head) constructors.now }
+{
+    constructors.iter().position(|con| head.0 == con.0)
+}
+
 /// The body for this constructor of a sort.
 fn case_of<'s>(sig: &'s Sig, fun: &'s Fun, sort: SortId, head: SymId) -> Option<&'s Body>
     requires { IsTrue (is_declared_sort sig.now sort) }
     ensures { option_copied result ≡ option_and_then (λ at. slice_get fun.now.cases at) (position_from (same_symbol head) 0 (constructors sig.now sort)) }
 {
-    let at = sig.constructors(sort).iter().position(|con| head.0 == con.0)?;
+    let Some(at) = place_of(sig.constructors(sort), head) else {
+        return None;
+    };
     fun.cases.get(at)
 }
 

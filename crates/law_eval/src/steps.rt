@@ -8,7 +8,7 @@ ghost use Rattle.law_value.specs.Values.{IsOf, AreOf, Grows, tree_of};
 ghost use Rattle.law_eval.specs.Work.{ids_of, todo_of, Running, IsFirst};
 ghost use Rattle.law_eval.specs.Work.Todo.{eval, apply};
 ghost use Rattle.law_eval.specs.Runs.{seen, matched_fields, Stuck};
-ghost use Rattle.law_eval.specs.Took.{on_top, IsFrameOf, IsSound, IsBuilt, LacksRows, Took};
+ghost use Rattle.law_eval.specs.Took.{on_top, IsFrameOf, IsSound, IsBuilt, LacksRows, IsRun, Took};
 
 use super::choose::choose;
 use super::error::EvalErr;
@@ -84,4 +84,94 @@ fn build(
     work.pay()?;
     let value = bank.make(sym, row.as_slice())?;
     work.add(value)
+}
+
+/// Applies a symbol to the last row: what a constructor makes of it is there, and of a function the body comes first.
+/// Either costs 1.
+fn call<'s>(
+    sig: &'s Sig,
+    bank: &mut ValueBank,
+    work: &mut Work<'s>,
+    sym: SymId,
+    count: u32,
+) -> Result<(), EvalErr>
+    requires well_formed { IsWellFormed sig.now }
+    requires sound { IsSound bank.old (on_top (apply sym count) (ids_of work.old)) }
+    ensures took { OnOk result (Took sig.now bank.old bank.new (on_top (apply sym count) (ids_of work.old)) (ids_of work.new)) }
+    ensures over { IsErrOf result EvalErr.Over → Stuck sig.now (seen bank.old (on_top (apply sym count) (ids_of work.old))) }
+    ensures grows { Grows bank.old bank.new }
+{
+    let Some(symbol) = sig.symbol(sym) else {
+        return Err(EvalErr::Over);
+    };
+    match symbol {
+        Sym::Con(_) => build(bank, work, sym, count),
+        Sym::Fun(fun) => run_body(sig, bank, work, sym, fun, count),
+    }
+}
+
+/// Takes the last row as the arguments of a function, and begins to evaluate the body that it takes.
+fn run_body<'s>(
+    sig: &'s Sig,
+    bank: &ValueBank,
+    work: &mut Work<'s>,
+    sym: SymId,
+    fun: &'s Fun,
+    count: u32,
+) -> Result<(), EvalErr>
+    requires well_formed { IsWellFormed sig.now }
+    requires declared { symbol_at sig.now sym ≡ Some (a_function fun.now) }
+    requires sound { IsSound bank.now (on_top (apply sym count) (ids_of work.old)) }
+    ensures took { OnOk result (Took sig.now bank.now bank.now (on_top (apply sym count) (ids_of work.old)) (ids_of work.new)) }
+    ensures over { IsErrOf result EvalErr.Over → Stuck sig.now (seen bank.now (on_top (apply sym count) (ids_of work.old))) }
+{
+    let args = work.take_row(count)?;
+    work.pay()?;
+    let Some(choice) = choose(sig, bank, fun, args.as_slice()) else {
+        return Err(EvalErr::Over);
+    };
+    work.enter(choice.body, choice.matched, args)
+}
+
+/// Does a task.
+fn step<'s>(
+    alloc: Global,
+    sig: &'s Sig,
+    bank: &mut ValueBank,
+    work: &mut Work<'s>,
+    task: Task<'s>,
+) -> Result<(), EvalErr>
+    requires well_formed { IsWellFormed sig.now }
+    requires sound { IsSound bank.old (on_top (todo_of task) (ids_of work.old)) }
+    ensures took { OnOk result (Took sig.now bank.old bank.new (on_top (todo_of task.entry) (ids_of work.old)) (ids_of work.new)) }
+    ensures over { IsErrOf result EvalErr.Over → Stuck sig.now (seen bank.old (on_top (todo_of task.entry) (ids_of work.old))) }
+    ensures grows { Grows bank.old bank.new }
+{
+    match task {
+        Task::Eval(body) => eval(alloc, bank, work, body),
+        Task::Each(bodies) => work.spread(bodies),
+        Task::Build(sym, count) => build(bank, work, sym, count),
+        Task::Apply(sym, count) => call(sig, bank, work, sym, count),
+        Task::Leave => work.leave(),
+    }
+}
+
+/// Does all that is left to do.
+pub fn run<'s>(
+    alloc: Global,
+    sig: &'s Sig,
+    bank: &mut ValueBank,
+    work: &mut Work<'s>,
+) -> Result<(), EvalErr>
+    requires well_formed { IsWellFormed sig.now }
+    requires sound { IsSound bank.old (ids_of work.old) }
+    ensures ran { OnOk result (IsRun sig.now bank.old (ids_of work.old) bank.new (ids_of work.new)) }
+    ensures done { OnOk result ((ids_of work.new).tasks ≡ []) }
+    ensures over { IsErrOf result EvalErr.Over → Stuck sig.now (seen bank.old (ids_of work.old)) }
+    ensures grows { Grows bank.old bank.new }
+{
+    while let Some(task) = work.tasks.pop() {
+        step(alloc, sig, bank, work, task)?;
+    }
+    Ok(())
 }
