@@ -1,6 +1,6 @@
 -- The sizes of bodies.
-use Rattle.std.proofs.Common.{◌≡◌, ℕ, ◌+◌, ◌≤◌, List, [], ◌∷◌, length, map, sym, ap, subst, ◌∙◌, arith}
-use Rattle.law_sig.specs.Lists.{Each, total}
+use Rattle.std.proofs.Common.{◌≡◌, ℕ, ◌+◌, ◌≤◌, List, [], ◌∷◌, length, map, ap, ◌∙◌, arith}
+use Rattle.law_sig.specs.Lists.{total}
 use Rattle.law_sig.specs.Bodies.{body_nodes, body_nodes_step}
 use Rattle.law_sig.specs.declared.tree.SymId.{SymId}
 use Rattle.law_sig.specs.declared.tree.Body.{Body}

@@ -32,6 +32,7 @@ mapped cases at fields ch e = by (slice_get cases at) refl e
   where
     same : (x y : Chosen) → ◌≡◌ {A = Option Chosen} (Some x) (Some y) → x ≡ y
     same x y e = cc
+
     by : (o : Option Body) → slice_get cases at ≡ o → option_map (λ (body : Body). let c : Chosen = record { body = body; fields = fields } in c) o ≡ Some ch → IsOneOf cases ch.body
     by None k e = cc
     by (Some body) k e = record { at = at; is = k ∙ ap (λ (c : Chosen). Some c.body) (same (record { body = body; fields = fields }) ch e) }

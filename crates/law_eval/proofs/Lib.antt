@@ -7,3 +7,4 @@ pub mod StuckFacts
 pub mod ResultFacts
 pub mod ChosenFacts
 pub mod Chain
+pub mod Outcome

@@ -1,7 +1,7 @@
 -- Each step leads to a state that ends alike.
-use Rattle.std.proofs.Common.{◌≡◌, ℕ, ◌+◌, ◌<◌, List, [], ◌∷◌, ◌++◌, length, Some, None, slice_get, refl, sym, ap, subst, ◌∙◌, arith, append-nil, append_assoc}
-use Rattle.law_sig.specs.Relation.{Named, Gives, GiveAll, Applies}
-use Rattle.law_sig.specs.Relation.Gives.{field, param, make, call}
+use Rattle.std.proofs.Common.{◌≡◌, ℕ, ◌+◌, List, [], ◌∷◌, ◌++◌, length, Some, refl, sym, ap, subst, ◌∙◌, arith, append-nil, append_assoc}
+use Rattle.law_sig.specs.Relation.{Named, Gives}
+use Rattle.law_sig.specs.Relation.Gives.{make, call}
 use Rattle.law_sig.specs.Relation.GiveAll.{none, more}
 use Rattle.law_sig.specs.Relation.Applies.{built, ran}
 use Rattle.law_sig.specs.Signature.{symbol_at}
@@ -18,8 +18,8 @@ use Rattle.law_sig.specs.declared.tree.Body.TheViews.{out-Body}
 use Rattle.law_sig.specs.declared.parts.SigParts.{SigParts}
 use Rattle.law_eval.specs.Work.{Todo}
 use Rattle.law_eval.specs.Work.Todo.{eval, each, build, apply, leave}
-use Rattle.law_eval.specs.Runs.{State, Then, IsMade, Finishes, Ends, Steps, Stuck}
-use Rattle.law_eval.proofs.Parts.{MadeOf, CalledWith, MoreOf, RanOf, make_parts, call_parts, none_parts, more_parts, ran_parts, built_parts, all_given}
+use Rattle.law_eval.specs.Runs.{State, Finishes, Steps}
+use Rattle.law_eval.proofs.Parts.{make_parts, call_parts, none_parts, more_parts, ran_parts, built_parts, all_given}
 
 abbrev pub state : List Todo → List (List Tree) → List Named → ℕ → State
 state tasks rows named left = record { tasks = tasks; rows = rows; named = named; left = left }
@@ -52,22 +52,29 @@ make_step parts tasks rows named left body f args o = record {
     on [] named v c e = absurd e
     on (row ∷ rows) [] v c e = absurd e
     on (row ∷ rows) (n ∷ named) v c e =
-        let p = make_parts parts f args o e.gives in
-        (c, record {
-          given = p.values;
-          spent = p.spent;
-          later = e.later + 1;
-          gives = p.all;
-          ends = (all_given parts p.all, record {
-            given = App f p.values;
-            spent = 1;
-            later = e.later;
-            gives = record { value = refl; one = refl };
-            ends = subst (λ x. Finishes parts v tasks ((row ++ x ∷ []) ∷ rows) (n ∷ named) e.later) p.value e.ends;
-            sum = omega arith;
-          });
-          sum = omega (arith, e.sum, p.cost);
-        }, omega arith)
+        let p = make_parts parts f args o e.gives in (
+          c,
+          record {
+            given = p.values;
+            spent = p.spent;
+            later = e.later + 1;
+            gives = p.all;
+            ends = (
+              all_given parts p.all,
+              record {
+                given = App f p.values;
+                spent = 1;
+                later = e.later;
+                gives = record { value = refl; one = refl };
+                ends = subst (λ x. Finishes parts v tasks ((row ++ x ∷ []) ∷ rows) (n ∷ named) e.later) p.value e.ends;
+                sum = omega arith;
+              },
+            );
+            sum = omega (arith, e.sum, p.cost);
+          },
+          omega arith,
+        )
+
     back : (rows : List (List Tree)) (named : List Named) (v : Tree) (g : ℕ) → Finishes parts v (each args ∷ build f (length args) ∷ tasks) ([] ∷ rows) named g
         → Finishes parts v (eval body ∷ tasks) rows named (g + 0)
     back rows [] v g e = absurd e
@@ -99,15 +106,19 @@ call_step parts tasks rows named left body f args o = record {
     on [] named v c e = absurd e
     on (row ∷ rows) [] v c e = absurd e
     on (row ∷ rows) (n ∷ named) v c e =
-        let p = call_parts parts f args o e.gives in
-        (c, record {
-          given = p.values;
-          spent = p.spent;
-          later = p.applied + e.later;
-          gives = p.all;
-          ends = (all_given parts p.all, record { given = e.given; spent = p.applied; later = e.later; gives = p.one; ends = e.ends; sum = refl });
-          sum = omega (arith, e.sum, p.cost);
-        }, omega arith)
+        let p = call_parts parts f args o e.gives in (
+          c,
+          record {
+            given = p.values;
+            spent = p.spent;
+            later = p.applied + e.later;
+            gives = p.all;
+            ends = (all_given parts p.all, record { given = e.given; spent = p.applied; later = e.later; gives = p.one; ends = e.ends; sum = refl });
+            sum = omega (arith, e.sum, p.cost);
+          },
+          omega arith,
+        )
+
     back : (rows : List (List Tree)) (named : List Named) (v : Tree) (g : ℕ) → Finishes parts v (each args ∷ apply f (length args) ∷ tasks) ([] ∷ rows) named g
         → Finishes parts v (eval body ∷ tasks) rows named (g + 0)
     back rows [] v g e = absurd e
@@ -147,22 +158,25 @@ pub more_step : (parts : SigParts) (tasks : List Todo) (row : List Tree) (rows :
 more_step parts tasks row rows n named left body bodies = record {
   spent = 0;
   pays = omega arith;
-  on = λ v c e. let p = more_parts parts e.gives in
-      (c, record {
-        given = p.value;
-        spent = p.cost;
-        later = p.spent + e.later;
-        gives = p.first;
-        ends = record {
-          given = p.values;
-          spent = p.spent;
-          later = e.later;
-          gives = p.others;
-          ends = subst (λ x. Finishes parts v tasks (x ∷ rows) (n ∷ named) e.later) (ap (λ vs. row ++ vs) p.is ∙ sym (append_assoc row (p.value ∷ []) p.values)) e.ends;
-          sum = refl;
-        };
-        sum = omega (arith, e.sum, p.sum);
-      }, omega arith);
+  on = λ v c e. let p = more_parts parts e.gives in (
+    c,
+    record {
+      given = p.value;
+      spent = p.cost;
+      later = p.spent + e.later;
+      gives = p.first;
+      ends = record {
+        given = p.values;
+        spent = p.spent;
+        later = e.later;
+        gives = p.others;
+        ends = subst (λ x. Finishes parts v tasks (x ∷ rows) (n ∷ named) e.later) (ap (λ vs. row ++ vs) p.is ∙ sym (append_assoc row (p.value ∷ []) p.values)) e.ends;
+        sum = refl;
+      };
+      sum = omega (arith, e.sum, p.sum);
+    },
+    omega arith,
+  );
   back = λ v g e. record {
     given = e.given ∷ e.ends.given;
     spent = e.spent + e.ends.spent;
@@ -212,17 +226,21 @@ enter_step parts tasks row rows named left f count fun ch declared is fits = rec
     on (below ∷ rows) v c e =
         let p = ran_parts parts fun ch declared is e.1.gives in
         (p.spent + e.1.later, record { given = e.1.given; spent = p.spent; later = e.1.later; gives = p.gives; ends = e.1.ends; sum = refl }, omega (arith, e.1.sum, p.cost))
+
     back : (rows : List (List Tree)) (v : Tree) (g : ℕ) → Finishes parts v (eval ch.body ∷ leave ∷ tasks) rows (record { fields = ch.fields; params = row } ∷ named) g
         → Finishes parts v (apply f count ∷ tasks) (row ∷ rows) named (g + 1)
     back [] v g e = absurd e
-    back (below ∷ rows) v g e = (fits, record {
-      given = e.given;
-      spent = 1 + e.spent;
-      later = e.later;
-      gives = ran f row e.given (1 + e.spent) fun ch e.spent declared is e.gives refl;
-      ends = e.ends;
-      sum = omega (arith, e.sum);
-    })
+    back (below ∷ rows) v g e = (
+      fits,
+      record {
+        given = e.given;
+        spent = 1 + e.spent;
+        later = e.later;
+        gives = ran f row e.given (1 + e.spent) fun ch e.spent declared is e.gives refl;
+        ends = e.ends;
+        sum = omega (arith, e.sum);
+      },
+    )
 
 -- a function ends
 pub leave_step : (parts : SigParts) (tasks : List Todo) (rows : List (List Tree)) (n : Named) (named : List Named) (left : ℕ)

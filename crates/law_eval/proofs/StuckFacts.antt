@@ -1,7 +1,7 @@
 -- Where an evaluation can't go on, no cost at which it ends is within what is left.
-use Rattle.std.proofs.Common.{◌≡◌, ℕ, suc, ◌+◌, ◌<◌, ◌≤◌, ◌⊎◌, inl, inr, List, [], ◌∷◌, ◌++◌, length, map, Option, Some, None, slice_get, option_map, refl, sym, ap, subst, ◌∙◌, arith}
+use Rattle.std.proofs.Common.{◌≡◌, ℕ, suc, ◌<◌, ◌≤◌, List, [], ◌∷◌, length, map, Option, Some, None, slice_get, option_map, refl, sym, ap, subst, ◌∙◌, arith}
 use Rattle.std.proofs.lemmas.Option.{slice_get-map}
-use Rattle.law_sig.specs.Relation.{Named, Gives, GiveAll, Applies}
+use Rattle.law_sig.specs.Relation.{Named, Applies}
 use Rattle.law_sig.specs.declared.tree.SymId.{SymId}
 use Rattle.law_sig.specs.declared.tree.Tree.{Tree}
 use Rattle.law_sig.specs.declared.tree.Body.{Body}
@@ -10,9 +10,9 @@ use Rattle.law_sig.specs.declared.tree.Body.TheViews.{out-Body}
 use Rattle.law_sig.specs.declared.parts.SigParts.{SigParts}
 use Rattle.law_value.specs.declared.bank.ValueId.{ValueId}
 use Rattle.law_value.specs.Values.{tree_of, trees_of}
-use Rattle.law_eval.specs.Work.{Todo, Running, Ids, IsFirst, LacksRow}
-use Rattle.law_eval.specs.Work.Todo.{eval, each, build, apply, leave}
-use Rattle.law_eval.specs.Runs.{State, IsMade, AfterRow, Finishes, Ends, Stuck, matched_fields, named_of, seen}
+use Rattle.law_eval.specs.Work.{Running, Ids, IsFirst, LacksRow}
+use Rattle.law_eval.specs.Work.Todo.{eval, build, apply}
+use Rattle.law_eval.specs.Runs.{IsMade, AfterRow, Finishes, Stuck, matched_fields, named_of, seen}
 use Rattle.law_eval.specs.Took.{on_top, LacksRows}
 use Rattle.law_laws.proofs.Application.{costs_something}
 use Rattle.law_eval.proofs.Parts.{field_parts, param_parts}

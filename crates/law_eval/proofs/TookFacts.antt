@@ -1,11 +1,11 @@
 -- Each step comes nearer to the end and keeps all ids of the bank.
-use Rattle.std.proofs.Common.{◌≡◌, ℕ, zero, suc, option_map, ◌+◌, ◌*◌, ◌-◌, ◌<◌, ◌≤◌, List, [], ◌∷◌, ◌++◌, length, map, Option, Some, None, slice_get, refl, sym, ap, subst, subst₂, ◌∙◌, arith}
+use Rattle.std.proofs.Common.{◌≡◌, ℕ, zero, suc, option_map, ◌+◌, ◌≤◌, List, [], ◌∷◌, ◌++◌, length, map, Option, Some, None, slice_get, refl, sym, ap, subst, subst₂, ◌∙◌, arith}
 use Rattle.std.proofs.lemmas.Option.{slice_get-map}
-use Rattle.law_sig.specs.Lists.{Each, total}
+use Rattle.law_sig.specs.Lists.{Each}
 use Rattle.law_sig.specs.Bodies.{body_nodes}
 use Rattle.law_sig.specs.Signature.{symbol_at}
-use Rattle.law_sig.specs.Evaluate.{Chosen, chosen}
-use Rattle.law_sig.specs.Relation.{Named, Gives, GiveAll, Applies}
+use Rattle.law_sig.specs.Evaluate.{chosen}
+use Rattle.law_sig.specs.Relation.{Gives}
 use Rattle.law_sig.specs.Relation.Gives.{field, param}
 use Rattle.law_sig.specs.declared.tree.SymId.{SymId}
 use Rattle.law_sig.specs.declared.tree.Tree.{Tree}
@@ -22,8 +22,8 @@ use Rattle.law_value.specs.Values.{IsOf, AreOf, tree_of, trees_of, fields_of, Gr
 use Rattle.law_value.proofs.BankFacts.{tree_stays, id_stays, trees_stay, ids_stay, held_more, trees_more}
 use Rattle.law_eval.specs.Work.{Todo, Running, Ids, spread_out, IsAdded, IsFirst, IsTaken, IsLeft, IsSpread}
 use Rattle.law_eval.specs.Work.Todo.{eval, each, build, apply, leave}
-use Rattle.law_eval.specs.Runs.{State, matched_fields, named_of, seen, Steps}
-use Rattle.law_eval.specs.Took.{IsMatchedOf, IsFrameOf, IsSmall, IsSound, weight_of, steps_left, on_top, IsBuilt, IsChosen, Took}
+use Rattle.law_eval.specs.Runs.{matched_fields, named_of, seen, Steps}
+use Rattle.law_eval.specs.Took.{IsMatchedOf, IsFrameOf, IsSound, on_top, IsBuilt, IsChosen, Took}
 use Rattle.law_eval.proofs.Tops.{same_ids}
 use Rattle.law_eval.proofs.Parts.{field_parts, param_parts}
 use Rattle.law_eval.proofs.BodyFacts.{nodes-Make, nodes-Call, some_nodes}
@@ -123,11 +123,11 @@ spread_took parts bank tasks row rows frame frames left (body ∷ bodies) sound 
 row_seen : (bank more : List Tree) (tasks : List Todo) (row below : List ValueId) (rows : List (List ValueId)) (frames : List Running) (left : ℕ) (task : Todo) (f : SymId) (v : ValueId)
     → IsSound bank (ids (task ∷ tasks) (row ∷ below ∷ rows) frames (left + 1)) → tree_of (bank ++ more) v ≡ App f (trees_of bank row)
     → state tasks ((trees_of bank below ++ App f (trees_of bank row) ∷ []) ∷ map (trees_of bank) rows) (map (named_of bank) frames) left
-      ≡ seen (bank ++ more) (ids tasks ((below ++ v ∷ []) ∷ rows) frames left)
+    ≡ seen (bank ++ more) (ids tasks ((below ++ v ∷ []) ∷ rows) frames left)
 row_seen bank more tasks row below rows frames left task f v sound tree =
     let first : trees_of (bank ++ more) (below ++ v ∷ []) ≡ trees_of bank below ++ App f (trees_of bank row) ∷ [] =
-        trees_more (bank ++ more) below v ∙ ap (λ l. l ++ tree_of (bank ++ more) v ∷ []) (trees_stay bank more below sound.rows.1.0)
-        ∙ ap (λ t. trees_of bank below ++ t ∷ []) tree in
+    trees_more (bank ++ more) below v ∙ ap (λ l. l ++ tree_of (bank ++ more) v ∷ []) (trees_stay bank more below sound.rows.1.0)
+    ∙ ap (λ t. trees_of bank below ++ t ∷ []) tree in
     let others = rows_stay bank more rows sound.rows.1.1 in
     let names = frames_stay bank more frames sound.frames in
     λ i. state tasks (sym first i ∷ sym others i) (sym names i) left
@@ -166,7 +166,7 @@ pub enter_took : (parts : SigParts) (bank : List Tree) (tasks : List Todo) (row 
     (body : Body) (matched : Option ValueId) → symbol_at parts f ≡ Some (sym_is.Fun fun) → chosen parts fun (trees_of bank row) ≡ Some (record { body = body; fields = matched_fields bank matched })
     → length row ≡ count → body_nodes body ≤ 4096 → IsMatchedOf bank matched → IsSound bank (ids (apply f count ∷ tasks) (row ∷ rows) frames (left + 1))
     → Took parts bank bank (ids (apply f count ∷ tasks) (row ∷ rows) frames (left + 1))
-      (ids (eval body ∷ leave ∷ tasks) rows (record { matched = matched; params = row } ∷ frames) left)
+    (ids (eval body ∷ leave ∷ tasks) rows (record { matched = matched; params = row } ∷ frames) left)
 enter_took parts bank tasks row rows frames left f count fun body matched declared is fits small held sound = record {
   steps = enter_step parts tasks (trees_of bank row) (map (trees_of bank) rows) (map (named_of bank) frames) left f count fun (record { body = body; fields = matched_fields bank matched }) declared is
       (length_trees bank row ∙ fits);
@@ -201,9 +201,9 @@ field_took parts bank body number old new v o found held added sound =
     let after : new ≡ ids old.tasks ((added.row ++ v ∷ []) ∷ added.rows) (found.0 ∷ found.1.others) old.left = added.after ∙ same_ids refl refl found.1.is refl in
     took_by parts bank bank before after
     (value_took parts bank old.tasks added.row added.rows found.0 found.1.others old.left body v
-      (field (named_of bank found.0) body (tree_of bank v) 0 number o found.2 refl)
-      (λ w c gives. let is = field_parts parts number o gives in (some_tree w (tree_of bank v) (sym is.0 ∙ found.2), is.1))
-      held (subst (IsSound bank) before sound))
+    (field (named_of bank found.0) body (tree_of bank v) 0 number o found.2 refl)
+    (λ w c gives. let is = field_parts parts number o gives in (some_tree w (tree_of bank v) (sym is.0 ∙ found.2), is.1))
+    held (subst (IsSound bank) before sound))
 
 pub param_took : (parts : SigParts) (bank : List Tree) (body : Body) (number : ℕ) (old new : Ids) (v : ValueId) → out-Body body ≡ b.Param number
     → (frame : Running) × IsFirst old.frames frame × (slice_get frame.params number ≡ Some v) → IsAdded old v new
@@ -215,9 +215,9 @@ param_took parts bank body number old new v o found added sound =
     let tree : slice_get (trees_of bank found.0.params) number ≡ Some (tree_of bank v) = slice_get-map (tree_of bank) found.0.params number ∙ ap (option_map (tree_of bank)) found.2 in
     took_by parts bank bank before after
     (value_took parts bank old.tasks added.row added.rows found.0 found.1.others old.left body v
-      (param (named_of bank found.0) body (tree_of bank v) 0 number o tree refl)
-      (λ w c gives. let is = param_parts parts number o gives in (some_tree w (tree_of bank v) (sym is.0 ∙ tree), is.1))
-      (held_at bank found.0.params number v found.2 sound'.frames.0.params) sound')
+    (param (named_of bank found.0) body (tree_of bank v) 0 number o tree refl)
+    (λ w c gives. let is = param_parts parts number o gives in (some_tree w (tree_of bank v) (sym is.0 ∙ tree), is.1))
+    (held_at bank found.0.params number v found.2 sound'.frames.0.params) sound')
 
 pub built_took : (parts : SigParts) (bank bank' : List Tree) (f : SymId) (count : ℕ) (old new : Ids) → IsBuilt bank bank' old f count new → Grows bank bank'
     → IsSound bank (on_top (build f count) old) → Took parts bank bank' (on_top (build f count) old) new
@@ -225,10 +225,10 @@ built_took parts bank bank' f count old new built grows sound =
     let before : on_top (build f count) old ≡ ids (build f count ∷ old.tasks) (built.row ∷ built.below ∷ built.rows) old.frames (built.left + 1) = same_ids refl built.before refl built.pays in
     took_by parts bank bank' before built.after
     (subst (λ (l : List Tree). Took parts bank l (ids (build f count ∷ old.tasks) (built.row ∷ built.below ∷ built.rows) old.frames (built.left + 1))
-        (ids old.tasks ((built.below ++ built.value ∷ []) ∷ built.rows) old.frames built.left)) (sym grows.1)
-      (build_took parts bank grows.0 old.tasks built.row built.below built.rows old.frames built.left f count built.value built.fits
-        (subst (λ (l : List Tree). IsOf l built.value) grows.1 built.of_bank) (ap (λ (l : List Tree). tree_of l built.value) (sym grows.1) ∙ built.tree)
-        (subst (IsSound bank) before sound)))
+    (ids old.tasks ((built.below ++ built.value ∷ []) ∷ built.rows) old.frames built.left)) (sym grows.1)
+    (build_took parts bank grows.0 old.tasks built.row built.below built.rows old.frames built.left f count built.value built.fits
+    (subst (λ (l : List Tree). IsOf l built.value) grows.1 built.of_bank) (ap (λ (l : List Tree). tree_of l built.value) (sym grows.1) ∙ built.tree)
+    (subst (IsSound bank) before sound)))
 
 pub applied_took : (parts : SigParts) (bank bank' : List Tree) (f : SymId) (count : ℕ) (con : Con) (old new : Ids) → symbol_at parts f ≡ Some (sym_is.Con con)
     → IsBuilt bank bank' old f count new → Grows bank bank' → IsSound bank (on_top (apply f count) old) → Took parts bank bank' (on_top (apply f count) old) new
@@ -236,10 +236,10 @@ applied_took parts bank bank' f count con old new declared built grows sound =
     let before : on_top (apply f count) old ≡ ids (apply f count ∷ old.tasks) (built.row ∷ built.below ∷ built.rows) old.frames (built.left + 1) = same_ids refl built.before refl built.pays in
     took_by parts bank bank' before built.after
     (subst (λ (l : List Tree). Took parts bank l (ids (apply f count ∷ old.tasks) (built.row ∷ built.below ∷ built.rows) old.frames (built.left + 1))
-        (ids old.tasks ((built.below ++ built.value ∷ []) ∷ built.rows) old.frames built.left)) (sym grows.1)
-      (con_took parts bank grows.0 old.tasks built.row built.below built.rows old.frames built.left f count con built.value declared built.fits
-        (subst (λ (l : List Tree). IsOf l built.value) grows.1 built.of_bank) (ap (λ (l : List Tree). tree_of l built.value) (sym grows.1) ∙ built.tree)
-        (subst (IsSound bank) before sound)))
+    (ids old.tasks ((built.below ++ built.value ∷ []) ∷ built.rows) old.frames built.left)) (sym grows.1)
+    (con_took parts bank grows.0 old.tasks built.row built.below built.rows old.frames built.left f count con built.value declared built.fits
+    (subst (λ (l : List Tree). IsOf l built.value) grows.1 built.of_bank) (ap (λ (l : List Tree). tree_of l built.value) (sym grows.1) ∙ built.tree)
+    (subst (IsSound bank) before sound)))
 
 pub began_took : (parts : SigParts) (bank : List Tree) (f : SymId) (count : ℕ) (fun : Fun) (old taken paid new : Ids) (row : List ValueId) (body : Body) (matched : Option ValueId)
     → symbol_at parts f ≡ Some (sym_is.Fun fun) → IsTaken old row count taken → taken ≡ record paid { left = paid.left + 1 } → IsChosen parts bank fun row body matched → body_nodes body ≤ 4096

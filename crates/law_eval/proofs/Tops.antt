@@ -1,5 +1,5 @@
 -- Lists whose last item comes next.
-use Rattle.std.proofs.Common.{◌≡◌, ℕ, zero, suc, ◌+◌, ◌-◌, ◌<◌, List, [], ◌∷◌, ◌++◌, length, Option, Some, None, slice_get, slice_index_or, ◌≤◌, take, drop, false, ◌==◌, refl, sym, ap, ◌∙◌, arith, option_to_list}
+use Rattle.std.proofs.Common.{◌≡◌, ℕ, zero, suc, ◌-◌, ◌<◌, List, [], ◌∷◌, ◌++◌, length, Some, None, slice_get, slice_index_or, ◌≤◌, take, drop, false, ◌==◌, refl, sym, ap, ◌∙◌, arith}
 use Rattle.law_eval.specs.Work.{tops_onto, tops, Ids, Todo, spread_out}
 use Rattle.law_eval.specs.Work.Todo.{eval, each}
 use Rattle.law_sig.specs.declared.tree.Body.{Body}

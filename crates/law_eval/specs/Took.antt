@@ -2,7 +2,7 @@
 use Rattle.std.specs.Prelude.{◌≡◌, ℕ, ◌+◌, ◌-◌, ◌*◌, ◌<◌, ◌≤◌, List, [], ◌∷◌, ◌++◌, length, map, Option, Some, None}
 use Rattle.law_sig.specs.Lists.{Each, total}
 use Rattle.law_sig.specs.Bodies.{body_nodes}
-use Rattle.law_sig.specs.Evaluate.{Chosen, chosen}
+use Rattle.law_sig.specs.Evaluate.{chosen}
 use Rattle.law_sig.specs.declared.tree.SymId.{SymId}
 use Rattle.law_sig.specs.declared.tree.Tree.{Tree}
 use Rattle.law_sig.specs.declared.tree.Tree.TheVariants.{App}

@@ -1,11 +1,8 @@
 -- An evaluation under way, as contracts see it: by ids, and by the trees that these have in the bank.
-use Rattle.std.specs.Prelude.{◌≡◌, ℕ, ◌<◌, List, [], ◌∷◌, ◌++◌, length, map, Option, Some, None}
-use Rattle.law_sig.specs.Relation.{Named}
+use Rattle.std.specs.Prelude.{◌≡◌, ℕ, List, [], ◌∷◌, ◌++◌, length, Option, Some, slice_get}
 use Rattle.law_sig.specs.declared.tree.SymId.{SymId}
-use Rattle.law_sig.specs.declared.tree.Tree.{Tree}
 use Rattle.law_sig.specs.declared.tree.Body.{Body}
 use Rattle.law_value.specs.declared.bank.ValueId.{ValueId}
-use Rattle.law_value.specs.Values.{tree_of, trees_of, fields_of}
 use Rattle.law_eval.specs.declared.work.Task.{Task}
 use Rattle.law_eval.specs.declared.work.Task.TheVariants as task
 use Rattle.law_eval.specs.declared.work.Frame.{Frame}
@@ -97,3 +94,10 @@ pub record IsSpread (old : Ids) (bodies : List Body) (new : Ids) : Type 0 where
   pub has_row : old.rows ≡ row ∷ rows
   pub has_frame : old.frames ≡ frame ∷ frames
   pub after : new ≡ record old { tasks = spread_out bodies old.tasks }
+
+-- the value that the first row begins with
+pub record IsAnswer (ids : Ids) (value : ValueId) : Type 0 where
+  pub row : List ValueId
+  pub rows : List (List ValueId)
+  pub is : ids.rows ≡ row ∷ rows
+  pub first : slice_get row 0 ≡ Some value

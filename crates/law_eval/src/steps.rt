@@ -69,12 +69,7 @@ fn eval<'s>(
 }
 
 /// Takes the last row and adds what the constructor makes of it to the row below, which costs 1.
-fn build(
-    bank: &mut ValueBank,
-    work: &mut Work<'_>,
-    sym: SymId,
-    count: u32,
-) -> Result<(), EvalErr>
+fn build(bank: &mut ValueBank, work: &mut Work<'_>, sym: SymId, count: u32) -> Result<(), EvalErr>
     requires { Each (AreOf bank.old) (ids_of work.old).rows }
     ensures ok { OnOk result (IsBuilt bank.old bank.new (ids_of work.old) sym count (ids_of work.new)) }
     ensures over { IsErrOf result EvalErr.Over → LacksRows (ids_of work.old) count }

@@ -1,5 +1,5 @@
 ghost use Rattle.std.specs.Prelude.{◌≡◌, ◌+◌, [], ◌∷◌, ◌++◌, ◌⊎◌, List, Some, None, slice_get, MatchOption, length, OnOk, IfOk, IsErrOf};
-ghost use Rattle.law_eval.specs.Work.{ids_of, todo_of, running, Ids, Running, IsAdded, IsTaken, LacksRow, IsLeft, IsSpread, IsFirst};
+ghost use Rattle.law_eval.specs.Work.{ids_of, todo_of, running, Ids, Running, IsAdded, IsTaken, LacksRow, IsLeft, IsSpread, IsFirst, IsAnswer};
 ghost use Rattle.law_eval.specs.Work.Todo.{eval, each, apply, leave};
 ghost use Rattle.law_value.specs.declared.bank.ValueId.{ValueId};
 
@@ -105,7 +105,12 @@ impl<'s> Work<'s> {
     }
 
     /// Begins a row for the values of these bodies, which the next task will take.
-    pub fn gather(&mut self, alloc: Global, next: Task<'s>, bodies: &'s [Body]) -> Result<(), EvalErr>
+    pub fn gather(
+        &mut self,
+        alloc: Global,
+        next: Task<'s>,
+        bodies: &'s [Body],
+    ) -> Result<(), EvalErr>
         ensures ok { OnOk result (ids_of self.new ≡ record (ids_of self.old) { tasks = each bodies.now ∷ (todo_of next.entry ∷ (ids_of self.old).tasks); rows = [] ∷ (ids_of self.old).rows }) }
         ensures over { IsErrOf result EvalErr.Over → ⊥ }
     {
@@ -176,6 +181,20 @@ impl<'s> Work<'s> {
             return Err(EvalErr::Over);
         };
         match frame.params.get(number as usize) {
+            Some(value) => Ok(*value),
+            None => Err(EvalErr::Over),
+        }
+    }
+
+    /// The value that stands first in the last row.
+    pub fn answer(&self) -> Result<ValueId, EvalErr>
+        ensures ok { IfOk result (λ value. IsAnswer (ids_of self.now) value) }
+        ensures over { IsErrOf result EvalErr.Over → (value : ValueId) → IsAnswer (ids_of self.now) value → ⊥ }
+    {
+        let Some(row) = self.rows.last() else {
+            return Err(EvalErr::Over);
+        };
+        match row.first() {
             Some(value) => Ok(*value),
             None => Err(EvalErr::Over),
         }

@@ -2,7 +2,6 @@ use Rattle.std.proofs.Common.{◌≡◌, ℕ, List, Option, Some, None, slice_ge
 use Rattle.std.specs.List.{position_from}
 use Rattle.std.proofs.lemmas.Iterator.Adapters.{position_from-zero}
 use Rattle.law_sig.specs.Trees.{same_symbol}
-use Rattle.law_sig.specs.Signature.{constructors}
 use Rattle.law_sig.specs.declared.tree.SymId.{SymId}
 use Rattle.law_sig.specs.declared.tree.Body.{Body}
 use Rattle.law_eval.proofs.choose.case_of.Goals as goal

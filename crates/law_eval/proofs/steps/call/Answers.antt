@@ -8,7 +8,7 @@ use Rattle.law_eval.proofs.steps.call.Goals as goal
 pub returns-in-Con-clause-took : goal.returns-in-Con-clause-took
 returns-in-Con-clause-took c = on_ok _ _ c.build.result
     (λ built. applied_took c.args.sig.now c.args.bank.now c.build.new.bank c.args.sym c.args.count c.in-Con.field-0 (ids_of c.args.work.now) (ids_of c.build.new.work)
-      (sym c.in-Some.ensures ∙ ap Some c.in-Con.is) built c.build.ensures.grows c.requires.sound)
+    (sym c.in-Some.ensures ∙ ap Some c.in-Con.is) built c.build.ensures.grows c.requires.sound)
     c.build.ensures.ok
 
 pub returns-in-Con-clause-over : goal.returns-in-Con-clause-over

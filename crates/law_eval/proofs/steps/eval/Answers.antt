@@ -1,13 +1,10 @@
-use Rattle.std.proofs.Common.{◌≡◌, ℕ, ◌+◌, ◌≤◌, List, [], ◌∷◌, length, Some, slice_get, refl, sym, ap, subst, ◌∙◌, arith}
-use Rattle.std.proofs.lemmas.Option.{slice_get-map}
-use Rattle.law_sig.specs.Bodies.{body_nodes}
-use Rattle.law_sig.specs.Lists.{total}
+use Rattle.std.proofs.Common.{◌≡◌, ℕ, List, ◌∷◌, refl, sym, ap, ◌∙◌, arith}
 use Rattle.law_sig.specs.declared.tree.Body.TheOpen as b
 use Rattle.law_sig.specs.declared.tree.Body.TheVariants.{rolls-Field, rolls-Param, rolls-Make, rolls-Call}
 use Rattle.law_sig.specs.declared.tree.Body.TheViews.{out-Body, out-roll-Body}
 use Rattle.law_sig.specs.declared.tree.Body.{Body}
 use Rattle.law_eval.specs.Work.{Todo, ids_of}
-use Rattle.law_eval.specs.Work.Todo.{eval, each, build, apply}
+use Rattle.law_eval.specs.Work.Todo.{each, build, apply}
 use Rattle.law_eval.proofs.ResultFacts.{on_ok, passed}
 use Rattle.law_eval.proofs.BodyFacts.{nodes-Make, nodes-Call, few_bodies}
 use Rattle.law_eval.proofs.TookFacts.{took_by, field_took, param_took, make_took, call_took}
@@ -43,25 +40,25 @@ overflow_cast-count-in-Call c =
 pub returns-in_ok-value-in-Field-clause-took : goal.returns-in_ok-value-in-Field-clause-took
 returns-in_ok-value-in-Field-clause-took c = on_ok _ _ c.add.result
     (λ added parts. field_took parts c.args.bank.now c.args.body.now c.in-Field.number (ids_of c.args.work.now) (ids_of c.add.new.self) c.in_ok-value-in-Field.value
-      (ap out-Body (c.in-Field.is ∙ sym (rolls-Field _)) ∙ out-roll-Body _) c.in_ok-value-in-Field.ensures.ok c.in_ok-value-in-Field.ensures.id added c.requires)
+    (ap out-Body (c.in-Field.is ∙ sym (rolls-Field _)) ∙ out-roll-Body _) c.in_ok-value-in-Field.ensures.ok c.in_ok-value-in-Field.ensures.id added c.requires)
     c.add.ensures.ok
 
 pub returns-in_ok-value-in-Param-clause-took : goal.returns-in_ok-value-in-Param-clause-took
 returns-in_ok-value-in-Param-clause-took c = on_ok _ _ c.add-in-Param.result
     (λ added parts. param_took parts c.args.bank.now c.args.body.now c.in-Param.number (ids_of c.args.work.now) (ids_of c.add-in-Param.new.self) c.in_ok-value-in-Param.value
-      (ap out-Body (c.in-Param.is ∙ sym (rolls-Param _)) ∙ out-roll-Body _) c.in_ok-value-in-Param.ensures.ok added c.requires)
+    (ap out-Body (c.in-Param.is ∙ sym (rolls-Param _)) ∙ out-roll-Body _) c.in_ok-value-in-Param.ensures.ok added c.requires)
     c.add-in-Param.ensures.ok
 
 pub returns-in-Make-clause-took : goal.returns-in-Make-clause-took
 returns-in-Make-clause-took c = on_ok _ _ c.gather.result
     (λ e parts. took_by parts c.args.bank.now c.args.bank.now refl
-      (e ∙ same_ids (gathered (build c.in-Make.sym) _ _ _ _ _ c.as_slice.ensures c.len-count.ensures) refl refl refl)
-      (make_took parts c.args.bank.now _ _ _ _ c.args.body.now c.in-Make.sym c.in-Make.args (ap out-Body (c.in-Make.is ∙ sym (rolls-Make _ _)) ∙ out-roll-Body _) c.requires))
+    (e ∙ same_ids (gathered (build c.in-Make.sym) _ _ _ _ _ c.as_slice.ensures c.len-count.ensures) refl refl refl)
+    (make_took parts c.args.bank.now _ _ _ _ c.args.body.now c.in-Make.sym c.in-Make.args (ap out-Body (c.in-Make.is ∙ sym (rolls-Make _ _)) ∙ out-roll-Body _) c.requires))
     c.gather.ensures.ok
 
 pub returns-in-Call-clause-took : goal.returns-in-Call-clause-took
 returns-in-Call-clause-took c = on_ok _ _ c.gather-in-Call.result
     (λ e parts. took_by parts c.args.bank.now c.args.bank.now refl
-      (e ∙ same_ids (gathered (apply c.in-Call.sym) _ _ _ _ _ c.as_slice-in-Call.ensures c.len-count-in-Call.ensures) refl refl refl)
-      (call_took parts c.args.bank.now _ _ _ _ c.args.body.now c.in-Call.sym c.in-Call.args (ap out-Body (c.in-Call.is ∙ sym (rolls-Call _ _)) ∙ out-roll-Body _) c.requires))
+    (e ∙ same_ids (gathered (apply c.in-Call.sym) _ _ _ _ _ c.as_slice-in-Call.ensures c.len-count-in-Call.ensures) refl refl refl)
+    (call_took parts c.args.bank.now _ _ _ _ c.args.body.now c.in-Call.sym c.in-Call.args (ap out-Body (c.in-Call.is ∙ sym (rolls-Call _ _)) ∙ out-roll-Body _) c.requires))
     c.gather-in-Call.ensures.ok

@@ -1,4 +1,4 @@
-use Rattle.std.proofs.Common.{◌≡◌, Some, None, sym, ap, subst, ◌∙◌}
+use Rattle.std.proofs.Common.{◌≡◌, None, ap, subst, ◌∙◌}
 use Rattle.law_sig.specs.Evaluate.{chosen}
 use Rattle.law_value.specs.Values.{trees_of}
 use Rattle.law_eval.specs.Work.{Ids, ids_of}
@@ -30,7 +30,7 @@ returns-in_default-clause-over c = λ over.
 pub returns-clause-took : goal.returns-clause-took
 returns-clause-took c = on_ok _ _ c.enter.result
     (λ e. began_took c.args.sig.now c.args.bank.now c.args.sym c.args.count c.args.fun.now (ids_of c.args.work.now) (ids_of c.take_row.new.self) (ids_of c.pay.new.self) (ids_of c.enter.new.self)
-      c.in_ok-args.args.items c.in-Some.choice.body.now c.in-Some.choice.matched c.requires.declared c.in_ok-args.ensures.ok c.in_ok-pay.ensures.ok
-      (subst (λ l. IsChosen c.args.sig.now c.args.bank.now c.args.fun.now l c.in-Some.choice.body.now c.in-Some.choice.matched) c.as_slice.ensures.value c.in-Some.ensures)
-      (small_chosen c.args.sig.now c.args.sym c.args.fun.now _ _ c.requires.well_formed c.requires.declared c.in-Some.ensures.is) e c.requires.sound)
+    c.in_ok-args.args.items c.in-Some.choice.body.now c.in-Some.choice.matched c.requires.declared c.in_ok-args.ensures.ok c.in_ok-pay.ensures.ok
+    (subst (λ l. IsChosen c.args.sig.now c.args.bank.now c.args.fun.now l c.in-Some.choice.body.now c.in-Some.choice.matched) c.as_slice.ensures.value c.in-Some.ensures)
+    (small_chosen c.args.sig.now c.args.sym c.args.fun.now _ _ c.requires.well_formed c.requires.declared c.in-Some.ensures.is) e c.requires.sound)
     c.enter.ensures.ok

@@ -1,5 +1,5 @@
 use Rattle.std.proofs.Common.{refl, ap, ◌∙◌, ◌∷◌}
-use Rattle.law_eval.specs.Work.{todo_of, running, tops}
+use Rattle.law_eval.specs.Work.{todo_of, tops}
 use Rattle.law_eval.proofs.Tops.{pushed, pushed_twice, same_ids}
 use Rattle.law_eval.proofs.work.Work.gather.Goals as goal
 

@@ -1,6 +1,6 @@
-use Rattle.std.proofs.Common.{◌≡◌, ℕ, ◌<◌, [], ◌∷◌, List, length, false, ◌==◌, refl, ap, sym, ◌∙◌, arith}
+use Rattle.std.proofs.Common.{◌≡◌, ◌<◌, [], ◌∷◌, List, length, ◌==◌, refl, ap, sym, ◌∙◌, arith}
 use Rattle.law_sig.specs.declared.tree.Body.{Body}
-use Rattle.law_eval.specs.Work.{Ids, Todo, ids_of, todo_of, running, spread_out, tops, IsSpread}
+use Rattle.law_eval.specs.Work.{Todo, ids_of, todo_of, running, spread_out, tops}
 use Rattle.law_eval.proofs.Tops.{has_first, pushed_twice, spread_is}
 use Rattle.law_eval.proofs.work.Work.spread.Goals as goal
 

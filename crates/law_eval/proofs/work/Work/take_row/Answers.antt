@@ -1,5 +1,4 @@
-use Rattle.std.proofs.Common.{refl, ap, ◌∙◌, ◌∷◌, sym, length, arith}
-use Rattle.law_eval.specs.Work.{todo_of, running, tops}
+use Rattle.std.proofs.Common.{refl, ap, ◌∙◌, sym, length}
 use Rattle.law_eval.proofs.Tops.{pushed, same_ids, first_is}
 use Rattle.law_eval.proofs.work.Work.take_row.Goals as goal
 
@@ -9,6 +8,6 @@ returns-then-len-count-clause-over c = λ _ row rows e fits. c.if-len-count.true
 
 pub returns-clause-ok : goal.returns-clause-ok
 returns-clause-ok c = record {
-    before = same_ids refl (pushed (λ row. row.items) _ _ _ c.in-Some.ensures.items) refl refl;
-    fits = sym c.in-Some.row.ok.0 ∙ sym c.len.ensures ∙ c.if-len-count.false;
-  }
+  before = same_ids refl (pushed (λ row. row.items) _ _ _ c.in-Some.ensures.items) refl refl;
+  fits = sym c.in-Some.row.ok.0 ∙ sym c.len.ensures ∙ c.if-len-count.false;
+}
