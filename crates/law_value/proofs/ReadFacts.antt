@@ -1,14 +1,18 @@
 -- What is known while the fields of a tree are read.
-use Rattle.std.proofs.Common.{◌≡◌, ℕ, zero, suc, ◌+◌, ◌<◌, ◌^◌, List, [], ◌∷◌, ◌++◌, length, map, take, Bool, true, false, ◌&&◌, nat_lt, slice_index_or, refl, sym, ap, subst, ◌∙◌, arith, append_assoc}
+use Rattle.std.proofs.Common.{Option, slice_get, None, Some, ◌≡◌, ℕ, zero, suc, ◌+◌, ◌<◌, ◌^◌, List, [], ◌∷◌, ◌++◌, length, map, take, Bool, true, false, ◌&&◌, nat_lt, slice_index_or, refl, sym, ap, subst, ◌∙◌, arith, append_assoc}
 use Rattle.std.proofs.lemmas.Option.{slice_get_read}
-use Rattle.std.proofs.lemmas.Bool.{ltb-true}
+use Rattle.std.proofs.lemmas.Bool.{ltb-true, lt-ltb}
 use Rattle.std.specs.List.{list_all}
+use Rattle.law_sig.specs.Lists.{Each}
 use Rattle.law_sig.specs.declared.tree.SymId.{SymId}
 use Rattle.law_sig.specs.declared.tree.Tree.{Tree}
 use Rattle.law_sig.specs.declared.tree.Tree.TheOpen as o
 use Rattle.law_sig.specs.declared.tree.Tree.TheFolds.{fold-roll-Tree}
 use Rattle.law_sig.specs.declared.tree.Tree.TheVariants.{App, rolls-App}
 use Rattle.law_value.specs.declared.bank.ValueId.{ValueId}
+use Rattle.law_value.specs.declared.bank.Cell.{Cell}
+use Rattle.law_value.specs.Cells.{IsCell, AreCells}
+use Rattle.law_value.proofs.CellFacts.{cell_tree}
 use Rattle.law_value.specs.Values.{IsOf, AreOf, tree_of, trees_of, IsShared, Grows, plain_step, is_plain}
 use Rattle.law_value.proofs.BankFacts.{trees_stay, ids_stay, held_more, trees_more, take_next}
 
@@ -66,3 +70,36 @@ read_next old bank new ids more args at v x read within is grows held tree share
   grows = grows_on old bank new read.grows grows;
   shared = shared;
 }
+
+-- The values of a bank are plain
+
+missing : {A : Type 0} (xs : List A) (at : ℕ) → at < length xs → slice_get xs at ≡ None → ⊥
+missing [] at within e = omega arith
+missing (x ∷ xs) zero within e = cc
+missing (x ∷ xs) (suc n) within e = missing xs n (omega arith) e
+
+all_plain : (bank : List Tree) (ids : List ValueId) (at : ℕ) → ((v : ValueId) → v.0 < at → is_plain (tree_of bank v) ≡ true) → Each (λ (v : ValueId). v.0 < at) ids
+    → list_all (λ b. b) (map is_plain (trees_of bank ids)) ≡ true
+all_plain bank [] at have earlier = refl
+all_plain bank (v ∷ ids) at have earlier = ap (λ b. b && list_all (λ b. b) (map is_plain (trees_of bank ids))) (have v earlier.0) ∙ all_plain bank ids at have earlier.1
+
+plain_cell : (bank : List Tree) (v : ValueId) (cell : Cell) → IsCell bank v.0 cell → ((w : ValueId) → w.0 < v.0 → is_plain (tree_of bank w) ≡ true) → is_plain (tree_of bank v) ≡ true
+plain_cell bank v cell is have =
+    let ts = trees_of bank cell.fields.items in
+    let count : length (map is_plain ts) ≡ length cell.fields.items = length_map is_plain ts ∙ length_map (tree_of bank) cell.fields.items in
+    let few : nat_lt (length (map is_plain ts)) (2 ^ 32) ≡ true = lt-ltb (length (map is_plain ts)) (2 ^ 32) (subst (λ n. n < 2 ^ 32) (sym count) is.few) in
+    ap is_plain (cell_tree bank v cell is) ∙ plain-App cell.sym ts
+    ∙ ap (λ b. b && list_all (λ b. b) (map is_plain ts)) few ∙ all_plain bank cell.fields.items v.0 have is.earlier
+
+plain_by : (bank : List Tree) (cells : List Cell) (v : ValueId) → AreCells cells bank → IsOf bank v → ((w : ValueId) → w.0 < v.0 → is_plain (tree_of bank w) ≡ true)
+    → (o : Option Cell) → slice_get cells v.0 ≡ o → is_plain (tree_of bank v) ≡ true
+plain_by bank cells v are held have None e = absurd (missing cells v.0 (omega (arith, are.one_each)) e)
+plain_by bank cells v are held have (Some cell) e = plain_cell bank v cell (are.each v.0 cell e) have
+
+plain_below : (bank : List Tree) (cells : List Cell) → AreCells cells bank → (bound : ℕ) (v : ValueId) → v.0 < bound → IsOf bank v → is_plain (tree_of bank v) ≡ true
+plain_below bank cells are zero v less held = absurd (omega arith)
+plain_below bank cells are (suc bound) v less held =
+    plain_by bank cells v are held (λ w lower. plain_below bank cells are bound w (omega arith) (omega arith)) (slice_get cells v.0) refl
+
+pub plain_of : (bank : List Tree) (cells : List Cell) (v : ValueId) → AreCells cells bank → IsOf bank v → is_plain (tree_of bank v) ≡ true
+plain_of bank cells v are held = plain_below bank cells are (suc v.0) v (omega arith) held

@@ -1,9 +1,11 @@
-ghost use Rattle.std.specs.Prelude.{◌≡◌, ℕ, ◌<◌, ◌^◌, ◌+◌, ◌-◌, ◌↔◌, List, [], length, map, min, slice_get, IfOk, OnOk, OnErr, IsTrue, Some};
-ghost use Rattle.law_sig.specs.Lists.{total};
+ghost use Rattle.std.specs.Prelude.{◌≡◌, ℕ, ◌<◌, ◌^◌, ◌+◌, ◌-◌, ◌↔◌, List, [], ◌∷◌, length, map, min, take, drop, slice_get, IfOk, OnOk, OnErr, IsTrue, Some};
+ghost use Rattle.law_sig.specs.Lists.{Each, total};
 ghost use Rattle.law_sig.specs.Trees.{node_count};
 ghost use Rattle.law_sig.specs.declared.tree.Tree.{Tree};
 ghost use Rattle.law_sig.specs.declared.tree.Tree.TheVariants.{App};
 ghost use Rattle.law_value.specs.Cells.{IsCell};
+ghost use Rattle.law_value.specs.Tops.{tops};
+ghost use Rattle.law_value.specs.Writing.{piece_of, pieces, IsPartOf, IsOpened, IsAdvanced};
 ghost use Rattle.law_value.specs.Values.{IsOf, AreOf, tree_of, trees_of, head_of, fields_of, IsShared, Grows, Adds, is_plain};
 
 use indexmap::IndexSet;
@@ -22,6 +24,14 @@ struct Cell {
     sym: SymId,
     fields: Vec<ValueId>,
     nodes: u64,
+}
+
+/// Something that is left to do while a value is written: the tree of a value, or a symbol over so many of the trees
+/// that are written.
+#[derive(Clone, Copy)]
+enum Part {
+    Whole(ValueId),
+    Join(SymId, u32),
 }
 
 /// Values, each kept once. Contracts see a bank as the list of its values, each at the place that its id names.
@@ -177,15 +187,77 @@ impl ValueBank {
         }
     }
 
-    /// A value as a tree of its own.
+    /// A value as a tree of its own. It takes the machine's stack for no depth of the value.
     pub fn write_value(&self, id: ValueId) -> Result<Tree, NoMemory>
         requires { IsOf self.now id }
-        ensures { IfOk result (λ tree. tree ≡ tree_of self.now id) }
+        ensures tree { IfOk result (λ tree. tree ≡ tree_of self.now id) }
+        ensures plain { IfOk result (λ tree. IsTrue (is_plain tree)) }
     {
-        let mut fields = Seq::new(self.alloc);
-        for at in 0..self.fields(id) {
-            fields.push(self.write_value(self.field(id, at))?)?;
+        let mut left = Vec::new(self.alloc);
+        let Ok(()) = left.push(Part::Whole(id)) else {
+            return Err(NoMemory);
+        };
+        let mut done = Vec::new(self.alloc);
+        while let Some(part) = left.pop() {
+            self.write_part(&mut left, &mut done, part)?;
         }
-        Ok(Tree::App(self.head(id), fields))
+        match done.pop() {
+            Some(tree) => Ok(tree),
+            None => unreachable!(),
+        }
     }
+
+    /// Writes a part, or gives way to the parts of it.
+    fn write_part(
+        &self,
+        left: &mut Vec<Part>,
+        done: &mut Vec<Tree>,
+        part: Part,
+    ) -> Result<(), NoMemory>
+        requires part { IsPartOf self.now part }
+        requires held { Each (IsPartOf self.now) (tops (λ p. p) left.old.items) }
+        ensures { OnOk result (IsAdvanced self.now (piece_of self.now part ∷ pieces self.now left.old.items) (tops (λ t. t) done.old.items) left.new.items (tops (λ t. t) done.new.items)) }
+    {
+        match part {
+            Part::Whole(id) => self.open(left, id),
+            Part::Join(sym, count) => join(self.alloc, done, sym, count),
+        }
+    }
+
+    /// Puts the fields of a value before what is left to write, and after them that they are to be joined.
+    fn open(&self, left: &mut Vec<Part>, id: ValueId) -> Result<(), NoMemory>
+        requires id { IsOf self.now id }
+        requires held { Each (IsPartOf self.now) (tops (λ p. p) left.old.items) }
+        ensures held { OnOk result (Each (IsPartOf self.now) (tops (λ p. p) left.new.items)) }
+        ensures pieces { OnOk result (IsOpened (tree_of self.now id) (pieces self.now left.old.items) (pieces self.now left.new.items)) }
+    {
+        let head = self.head(id);
+        let count = self.fields(id);
+        let Ok(()) = left.push(Part::Join(head, count)) else {
+            return Err(NoMemory);
+        };
+        for at in 0..count {
+            let Ok(()) = left.push(Part::Whole(self.field(id, at))) else {
+                return Err(NoMemory);
+            };
+        }
+        Ok(())
+    }
+}
+
+/// Makes one tree of the last ones written, of which the first field is the last.
+fn join(alloc: Global, done: &mut Vec<Tree>, sym: SymId, count: u32) -> Result<(), NoMemory>
+    ensures { OnOk result (tops (λ t. t) done.new.items ≡ App sym (take count (tops (λ t. t) done.old.items)) ∷ drop count (tops (λ t. t) done.old.items)) }
+{
+    let mut fields = Seq::new(alloc);
+    for _at in 0..count {
+        let Some(field) = done.pop() else {
+            continue;
+        };
+        fields.push(field)?;
+    }
+    let Ok(()) = done.push(Tree::App(sym, fields)) else {
+        return Err(NoMemory);
+    };
+    Ok(())
 }
