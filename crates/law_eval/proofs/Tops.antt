@@ -1,22 +1,11 @@
 -- Lists whose last item comes next.
 use Rattle.std.proofs.Common.{◌≡◌, ℕ, zero, suc, ◌-◌, ◌<◌, List, [], ◌∷◌, ◌++◌, length, Some, None, slice_get, slice_index_or, ◌≤◌, take, drop, false, ◌==◌, refl, sym, ap, ◌∙◌, arith}
-use Rattle.law_eval.specs.Work.{tops_onto, tops, Ids, Todo, spread_out}
+use Rattle.law_value.proofs.Tops.{pushed}
+use Rattle.law_eval.specs.Work.{Ids, Todo, spread_out}
+use Rattle.law_value.specs.Tops.{tops_onto, tops}
 use Rattle.law_eval.specs.Work.Todo.{eval, each}
 use Rattle.law_sig.specs.declared.tree.Body.{Body}
 use Rattle.std.proofs.Math.Seq.{take-length}
-
-onto-pushed : {A B : Type 0} (f : A → B) (xs : List A) (x : A) (more : List B) → tops_onto f (xs ++ x ∷ []) more ≡ f x ∷ tops_onto f xs more
-onto-pushed f [] x more = refl
-onto-pushed f (y ∷ xs) x more = onto-pushed f xs x (f y ∷ more)
-
--- an item was added at the end
-pub pushed : {A B : Type 0} (f : A → B) (old new : List A) (x : A) → new ≡ old ++ x ∷ [] → tops f new ≡ f x ∷ tops f old
-pushed f old new x e = ap (tops f) e ∙ onto-pushed f old x []
-
--- nothing is left
-pub none_left : {A B : Type 0} (f : A → B) (xs : List A) → length xs ≡ 0 → tops f xs ≡ []
-none_left f [] e = refl
-none_left f (x ∷ xs) e = absurd (omega arith)
 
 -- all that is under way is the same where each part is
 pub same_ids : {a b : Ids} → a.tasks ≡ b.tasks → a.rows ≡ b.rows → a.frames ≡ b.frames → a.left ≡ b.left → a ≡ b

@@ -3,6 +3,7 @@ use Rattle.std.specs.Prelude.{◌≡◌, ℕ, List, [], ◌∷◌, ◌++◌, len
 use Rattle.law_sig.specs.declared.tree.SymId.{SymId}
 use Rattle.law_sig.specs.declared.tree.Body.{Body}
 use Rattle.law_value.specs.declared.bank.ValueId.{ValueId}
+use Rattle.law_value.specs.Tops.{tops}
 use Rattle.law_eval.specs.declared.work.Task.{Task}
 use Rattle.law_eval.specs.declared.work.Task.TheVariants as task
 use Rattle.law_eval.specs.declared.work.Frame.{Frame}
@@ -22,14 +23,6 @@ todo_of (task.Each bodies) = each bodies.now
 todo_of (task.Build f count) = build f count
 todo_of (task.Apply f count) = apply f count
 todo_of task.Leave = leave
-
--- what f gives of each item, the last first, and then some more
-abbrev pub tops_onto : {A B : Type 0} → (A → B) → List A → List B → List B
-tops_onto f [] more = more
-tops_onto f (x ∷ xs) more = tops_onto f xs (f x ∷ more)
-
-abbrev pub tops : {A B : Type 0} → (A → B) → List A → List B
-tops f xs = tops_onto f xs []
 
 -- a function that runs
 pub record Running : Type 0 where
