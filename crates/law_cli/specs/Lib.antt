@@ -1,1 +1,9 @@
 pub mod Small
+pub mod Printed
+pub mod Promise
+pub mod Reading
+pub mod SmallReadPlain
+pub mod SmallTypes
+pub mod SmallTypesReading
+pub mod SmallReadWords
+pub mod SmallReadOrder

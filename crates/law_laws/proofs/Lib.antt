@@ -16,3 +16,4 @@ pub mod Universe
 pub mod Enumeration
 pub mod Inversion
 pub mod Filling
+pub mod Spelled

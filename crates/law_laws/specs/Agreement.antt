@@ -8,12 +8,12 @@ use Rattle.law_sig.specs.declared.parts.Equation.{Equation}
 use Rattle.law_sig.specs.declared.parts.SigParts.{SigParts}
 
 -- agreement is symmetric and transitive
-pub record IsShared (parts : SigParts) (pools : Pools) : Type 0 where
+pub record IsPartialEquivalence (parts : SigParts) (pools : Pools) : Type 0 where
   pub back : (s t : Tree) → Agrees parts pools s t → Agrees parts pools t s
   pub chain : (s t u : Tree) → Agrees parts pools s t → Agrees parts pools t u → Agrees parts pools s u
 
-abbrev pub AgreementIsShared : Type 0
-AgreementIsShared = (parts : SigParts) (pools : Pools) → IsShared parts pools
+abbrev pub AgreementIsPartialEquivalence : Type 0
+AgreementIsPartialEquivalence = (parts : SigParts) (pools : Pools) → IsPartialEquivalence parts pools
 
 -- terms of one sort that have a least have the same one exactly where they have the same values; so each has one least
 abbrev pub LeastTellsValues : Type 0

@@ -1,12 +1,12 @@
 //! Laws of the definitions of `law_sig`: each function has an empty body, and its contract is the law.
 #![tactic(auto)]
 
-ghost use Rattle.law_laws.specs.Agreement.{AgreementIsShared, LeastTellsValues, OneLawList};
+ghost use Rattle.law_laws.specs.Agreement.{AgreementIsPartialEquivalence, LeastTellsValues, OneLawList};
 ghost use Rattle.law_laws.specs.Application.{ComputedIsGiven, GivenIsComputed, OneValue, DepthChangesNothing, BudgetBoundsCost};
 ghost use Rattle.law_laws.specs.Coverage.{ListCovers, LeastExists, ListInBudgetCovers};
 ghost use Rattle.law_laws.specs.Derivation.{DerivationKeepsSorts, InstancesAreDerivable, DerivableEquationsAddNothing};
 ghost use Rattle.law_laws.specs.Filling.{NumberedTermsFill};
-ghost use Rattle.law_laws.specs.Orders.{OrdersAreTotal, EqualIsSame, FallsWithArgument, DescentsEnd};
+ghost use Rattle.law_laws.specs.Orders.{OrdersAreSpelled, ExploringFollowsWeight, OrdersAreTotal, EqualIsSame, FallsWithArgument, DescentsEnd};
 ghost use Rattle.law_laws.specs.Renaming.{TestsAreRenamed, FlatTestsSeeSchemas};
 
 /// The law list covers, where every term of the universe has a value at every test and a least one; and each has a least
@@ -17,9 +17,11 @@ pub fn coverage_laws()
     ensures in_budget { ListInBudgetCovers }
 {}
 
-/// The orders of terms are total, equal only at the same term, and fall where an argument does; and every descent in
-/// the order of exploring ends.
+/// What the orders of terms compare, step by step. They follow the weight, are total, equal only at the same term, and
+/// fall where an argument does; and every descent in the order of exploring ends.
 pub fn order_laws()
+    ensures spelled { OrdersAreSpelled }
+    ensures weight { ExploringFollowsWeight }
     ensures total { OrdersAreTotal }
     ensures equal { EqualIsSame }
     ensures falls { FallsWithArgument }
@@ -45,7 +47,7 @@ pub fn derivation_laws()
 /// Agreement is symmetric and transitive, terms of one sort with the same values have the same least term, and there is
 /// one law list.
 pub fn agreement_laws()
-    ensures shared { AgreementIsShared }
+    ensures equivalence { AgreementIsPartialEquivalence }
     ensures least { LeastTellsValues }
     ensures one { OneLawList }
 {}

@@ -9,4 +9,4 @@ mod write;
 
 pub use raw::{RawHead, RawLine, RawTerm};
 pub use sig::RawSig;
-pub use write::{write_sig, write_term};
+pub use write::{write_lines, write_sig, write_term};

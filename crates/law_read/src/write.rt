@@ -13,8 +13,15 @@ use std::alloc::Global;
 pub fn write_sig(alloc: Global, raw: &RawSig) -> Result<Text, NoMemory>
     ensures { IfOk result (λ text. text ≡ sig_spelling raw.now) }
 {
+    write_lines(alloc, raw.lines())
+}
+
+/// The text of these lines, each with its line feed, whether or not they make up a signature.
+pub fn write_lines(alloc: Global, lines: &[RawLine]) -> Result<Text, NoMemory>
+    ensures { IfOk result (λ text. text ≡ sig_spelling lines.now) }
+{
     let mut text = Text::new(alloc);
-    for line in raw.lines() {
+    for line in lines {
         put_line(&mut text, line)?;
         text.push(b'\n')?;
     }

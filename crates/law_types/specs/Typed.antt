@@ -1,5 +1,5 @@
 -- When the lines of a text state a signature.
-use Rattle.std.specs.Prelude.{◌≡◌, ℕ, suc, ◌+◌, List, [], ◌∷◌, ◌++◌, length, map, Option, Some, None, slice_get, option_map, unwrap_or}
+use Rattle.std.specs.Prelude.{◌≡◌, ℕ, suc, ◌≤◌, List, [], ◌∷◌, ◌++◌, length, map, Option, Some, None, slice_get, option_map, unwrap_or}
 use Rattle.law_sig.specs.Lists.{In, Each}
 use Rattle.law_sig.specs.Trees.{joined}
 use Rattle.law_sig.specs.Signature.{symbol_at, args_of, constructors, vars_at, width_at, weight_at}
@@ -44,13 +44,13 @@ pools_line (rule.Seeded seed height count) = line.PoolsSeed seed height count
 abbrev pub settings_lines : Version → SigParts → List RawLine
 settings_lines (first vars width) parts =
     line.Head ∷ line.Vars vars ∷ line.Size parts.settings.size ∷ line.Width width ∷ line.Budget parts.settings.budget
-      ∷ line.Pairs parts.settings.pairs ∷ pools_line parts.settings.pools ∷ []
+    ∷ line.Pairs parts.settings.pairs ∷ pools_line parts.settings.pools ∷ []
 settings_lines second parts =
     line.Head2 ∷ line.Size parts.settings.size ∷ line.Budget parts.settings.budget ∷ line.Pairs parts.settings.pairs
-      ∷ pools_line parts.settings.pools ∷ []
+    ∷ pools_line parts.settings.pools ∷ []
 settings_lines third parts =
     line.Head3 ∷ line.Size parts.settings.size ∷ line.Budget parts.settings.budget ∷ line.Pairs parts.settings.pairs
-      ∷ pools_line parts.settings.pools ∷ []
+    ∷ pools_line parts.settings.pools ∷ []
 
 -- Sorts and constructors
 
@@ -100,8 +100,8 @@ AreFunLines version parts number [] lines = lines ≡ []
 AreFunLines version parts number (sym.Con con ∷ symbols) lines = AreFunLines version parts (suc number) symbols lines
 AreFunLines version parts number (sym.Fun fun ∷ symbols) lines =
     (rules : List RawLine) × (others : List RawLine)
-      × (lines ≡ fun_line version parts (record { 0 = number }) fun ∷ (rules ++ others))
-      × AreRules parts fun fun.place rules × AreFunLines version parts (suc number) symbols others
+    × (lines ≡ fun_line version parts (record { 0 = number }) fun ∷ (rules ++ others))
+    × AreRules parts fun fun.place rules × AreFunLines version parts (suc number) symbols others
 
 -- the functions among these symbols, by number
 abbrev pub functions_from : ℕ → List Sym → List SymId
@@ -124,6 +124,10 @@ abbrev pub values_lines : SigParts → ℕ → List (List Tree) → List RawLine
 values_lines parts sort [] = []
 values_lines parts sort (values ∷ others) =
     line.Values (sort_name parts (record { 0 = sort })) (map (named_term parts) values) ∷ values_lines parts (suc sort) others
+
+-- a pool with values for at most 64 sorts, as every pool of a signature has
+abbrev pub HasFewSorts : List (List Tree) → Type 0
+HasFewSorts pool = length pool ≤ 64
 
 abbrev pub pools_lines : SigParts → List (List (List Tree)) → List RawLine
 pools_lines parts [] = []

@@ -4,7 +4,7 @@ use Rattle.law_laws.proofs.agreement_laws.Goals as goal
 
 pub returns : goal.returns
 returns c = record {
-  shared = λ parts pools. record { back = agrees_back parts pools; chain = agrees_chain parts pools };
+  equivalence = λ parts pools. record { back = agrees_back parts pools; chain = agrees_chain parts pools };
   least = λ parts pools sort s t u w l m. (least_same parts pools sort s t u w l m, same_least parts pools sort s t u w l m);
   one = one_law_list;
 }

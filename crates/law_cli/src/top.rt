@@ -1,0 +1,86 @@
+ghost use Rattle.std.specs.Prelude.{◌≡◌, ◌≢◌, ◌<◌, ◌⊎◌, ◌↔◌, map, string_bytes, IsTrue};
+ghost use Rattle.law_io.specs.Counts.{Rose};
+ghost use Rattle.law_io.specs.Takings.{Grows, GrewByPrefix};
+ghost use Rattle.law_cli.specs.Promise.{ArePlainWords, IsDone, IsUsage, IsNotBuilt, IsCutOff};
+ghost use Rattle.law_cli.specs.declared.status.Status.TheVariants as status;
+
+use crate::input::{Refusal, read_all};
+use crate::plain::plain_text;
+use crate::status::{Status, line_of};
+use law_io::{Sink, Source, push_all};
+use std::alloc::Global;
+
+/// The top call: it does all that the program does. All memory is taken before the first byte is pushed.
+pub fn run<S: Source, K: Sink>(
+    alloc: Global,
+    words: &[String],
+    input: &mut S,
+    out: &mut K,
+) -> Status
+    ensures done { result ≡ status.Done →
+        IsDone (map string_bytes words.now) (S.left input.old) (S.left input.new) (K.taken out.old) (K.taken out.new) }
+    ensures usage { result ≡ status.Usage → IsUsage (map string_bytes words.now) (K.taken out.old) (K.taken out.new) }
+
+    // Where the words are no command, that is the answer, and the source isn't asked.
+    ensures usage_always { (ArePlainWords (map string_bytes words.now) → ⊥) → (result ≡ status.Usage) ⊎ (result ≡ status.WriteFault) }
+    ensures unasked { (ArePlainWords (map string_bytes words.now) → ⊥) → input.new ≡ input.old }
+    ensures not_built { result ≡ status.NotBuilt →
+        IsNotBuilt (map string_bytes words.now) (S.left input.old) (K.taken out.old) (K.taken out.new) }
+
+    // A failed call of the source or the sink is never passed over.
+    ensures read_fault { result ≡ status.ReadFault → Rose (S.faults input.old) (S.faults input.new) }
+    ensures read_fault_always { S.faults input.old < S.faults input.new → (result ≡ status.ReadFault) ⊎ (result ≡ status.NoMemory) }
+    ensures write_fault { result ≡ status.WriteFault →
+        IsCutOff (map string_bytes words.now) (S.left input.old) (K.taken out.old) (K.taken out.new) (K.faults out.old) (K.faults out.new) }
+    ensures write_fault_always { K.faults out.old < K.faults out.new → result ≡ status.WriteFault }
+
+    // Where nothing was printed, the sink is as before.
+    ensures read_fault_prints_nothing { result ≡ status.ReadFault → out.new ≡ out.old }
+    ensures no_memory_prints_nothing { result ≡ status.NoMemory → out.new ≡ out.old }
+{
+    if !is_plain(words) {
+        return finish(out, line_of(Status::Usage), Status::Usage);
+    }
+    match read_all(alloc, input) {
+        Ok(bytes) => match plain_text(alloc, bytes.as_slice()) {
+            Ok(Some(text)) => finish(out, text.as_slice(), Status::Done),
+            Ok(None) => finish(out, line_of(Status::NotBuilt), Status::NotBuilt),
+            Err(_) => Status::NoMemory,
+        },
+        Err(Refusal::TooLong) => finish(out, line_of(Status::NotBuilt), Status::NotBuilt),
+        Err(Refusal::Fault) => Status::ReadFault,
+        Err(Refusal::NoMemory) => Status::NoMemory,
+    }
+}
+
+/// Whether the words are the one word `plain`.
+fn is_plain(words: &[String]) -> bool
+    ensures { IsTrue result ↔ ArePlainWords (map string_bytes words.now) }
+{
+    match words {
+        [word] => is_same(word.as_bytes(), b"plain"),
+        _ => false,
+    }
+}
+
+/// Whether two texts are the same.
+fn is_same(left: &[u8], right: &[u8]) -> bool
+    ensures { IsTrue result ↔ (left.now ≡ right.now) }
+{
+    left == right
+}
+
+/// Prints the text, and then this status is the answer; the one place that pushes.
+fn finish<K: Sink>(out: &mut K, text: &[u8], planned: Status) -> Status
+    requires { planned ≢ status.WriteFault }
+    ensures whole { result ≢ status.WriteFault → Grows (K.taken out.old) (K.taken out.new) text.now }
+    ensures answer { (result ≡ planned) ⊎ (result ≡ status.WriteFault) }
+    ensures kept { result ≢ status.WriteFault → K.faults out.new ≡ K.faults out.old }
+    ensures part { result ≡ status.WriteFault → GrewByPrefix (K.taken out.old) (K.taken out.new) text.now }
+    ensures fault { result ≡ status.WriteFault → Rose (K.faults out.old) (K.faults out.new) }
+{
+    match push_all(out, text) {
+        Ok(()) => planned,
+        Err(_) => Status::WriteFault,
+    }
+}
