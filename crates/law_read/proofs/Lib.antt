@@ -1,1 +1,4 @@
+pub mod Cuts
+pub mod Parts
 pub mod Spaced
+pub mod Walks

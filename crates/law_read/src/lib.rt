@@ -2,11 +2,17 @@
 #![tactic(auto)]
 
 mod copy;
+mod error;
+mod part;
 mod raw;
 mod shape;
 mod sig;
+mod stage;
+mod take;
+mod want;
 mod write;
 
+pub use error::{ReadErr, ReadKind};
 pub use raw::{RawHead, RawLine, RawTerm};
 pub use sig::RawSig;
 pub use write::{write_sig, write_term};
