@@ -30,6 +30,12 @@ pub past_end : (nodes : ℕ) (old new : List ℕ) (piece : Piece) → pieces old
 unfolding walk
 past_end nodes old new piece e = ap (λ ps. walk nodes [] ps) e
 
+-- what the end of the line says, whatever is wanted
+pub walk_nil : (nodes : ℕ) (wants : List Want) → walk nodes wants [] ≡ end_fault (ends wants)
+unfolding walk
+walk_nil nodes [] = refl
+walk_nil nodes (want ∷ wants) = refl
+
 pub at_end : (nodes : ℕ) (left : List ℕ) → left ≡ [] → walk nodes [] (pieces left) ≡ None
 unfolding walk
 at_end nodes left e = ap (λ l. walk nodes [] (pieces l)) e

@@ -240,10 +240,10 @@ behind e.Line rest = rest
 behind e.Bracket rest = rest
 behind (e.Mark mark) rest = w.Gap ∷ w.Fixed mark ∷ rest
 
--- a value counts its own nodes
+-- arguments count with the nodes of their term, a value counts its own
 abbrev pub before_item : Row → ℕ → ℕ
-before_item r.Values nodes = 0
-before_item row nodes = nodes
+before_item (r.Args place) nodes = nodes
+before_item row nodes = 0
 
 abbrev pub item_place : Row → Place
 item_place (r.Args place) = place

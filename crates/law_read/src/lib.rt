@@ -3,12 +3,14 @@
 
 mod copy;
 mod error;
+mod line;
 mod part;
 mod raw;
 mod shape;
 mod sig;
 mod stage;
 mod take;
+mod term;
 mod want;
 mod write;
 
