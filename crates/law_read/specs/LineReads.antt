@@ -1,5 +1,5 @@
 -- What the readers of whole lines say.
-use Rattle.std.specs.Prelude.{◌≡◌, ℕ, ◌<◌, ◌^◌, List, [], ◌∷◌, ◌++◌, Option, None, codes, decimal}
+use Rattle.std.specs.Prelude.{◌≡◌, ℕ, ◌<◌, ◌^◌, Bool, true, false, List, [], ◌∷◌, ◌++◌, length, map, Option, None, codes, decimal}
 use Rattle.law_text.specs.Pieces.{pieces}
 use Rattle.law_read.specs.declared.raw.RawLine.{RawLine}
 use Rattle.law_read.specs.declared.raw.RawLine.TheVariants as r
@@ -7,28 +7,22 @@ use Rattle.law_read.specs.declared.want.Bounds.TheVariants.{Kept}
 use Rattle.law_read.specs.declared.stage.Version.{Version}
 use Rattle.law_read.specs.declared.stage.Version.TheVariants.{First, Second, Third}
 use Rattle.law_read.specs.declared.stage.Key.{Key}
-use Rattle.law_read.specs.Spelling.{line_spelling}
-use Rattle.law_read.specs.Lines.{IsLine}
-use Rattle.law_read.specs.Stages.{key_text, line_key}
-use Rattle.law_read.specs.Walk.{walk, line_wants, seed_wants, setting}
+use Rattle.law_read.specs.declared.stage.Key.TheVariants.{Signature}
+use Rattle.law_read.specs.declared.stage.Stage.{Stage}
+use Rattle.law_read.specs.declared.want.Want.TheVariants as w
+use Rattle.law_read.specs.declared.want.Want.{Want}
+use Rattle.law_read.specs.declared.want.Row.TheVariants as row
+use Rattle.law_read.specs.declared.want.Ending.TheVariants as e
+use Rattle.law_read.specs.declared.raw.RawTerm.{RawTerm}
+use Rattle.law_read.specs.Spelling.{arg_spelling, line_spelling, spaced}
+use Rattle.law_read.specs.Lines.{AreValues, IsLine}
+use Rattle.law_read.specs.Stages.{IsOfVersion, allows, key_text, line_key}
+use Rattle.law_read.specs.Walk.{walk, line_wants, pools_wants, seed_wants, setting}
 
 pub record SettingRead (old : List ℕ) (number : ℕ) : Type 0 where
   pub text : old ≡ 32 ∷ decimal number
   pub walked : walk 0 setting (pieces old) ≡ None
   pub small : number < 2 ^ 63
-
--- the lines whose form goes with the version
-abbrev pub IsOfVersion : Version → RawLine → Type 0
-IsOfVersion First (r.SortLine2 name vars width) = ⊥
-IsOfVersion Second (r.SortLine name) = ⊥
-IsOfVersion Third (r.SortLine name) = ⊥
-IsOfVersion First (r.ConLine3 weight name args) = ⊥
-IsOfVersion Second (r.ConLine3 weight name args) = ⊥
-IsOfVersion Third (r.ConLine name args) = ⊥
-IsOfVersion First (r.FunLine3 weight name args result) = ⊥
-IsOfVersion Second (r.FunLine3 weight name args result) = ⊥
-IsOfVersion Third (r.FunLine name args result) = ⊥
-IsOfVersion version line = Unit {0}
 
 -- A line was read from behind its key on.
 pub record RestRead (version : Version) (key : Key) (old : List ℕ) (line : RawLine) : Type 0 where
@@ -43,3 +37,34 @@ pub record SeedRead (old : List ℕ) (line : RawLine) : Type 0 where
   pub text : line_spelling line ≡ codes "pools seed" ++ old
   pub walked : walk 0 seed_wants (pieces old) ≡ None
   pub spelled : IsLine Kept line
+
+-- the first line, by its number
+pub record HeadRead (number : List ℕ) (line : RawLine) : Type 0 where
+  pub text : line_spelling line ≡ codes "signature " ++ number
+  pub spelled : IsLine Kept line
+  pub begun : line_key line ≡ Signature
+  pub form : (version : Version) → IsOfVersion version line
+
+-- whether pools are given was read
+abbrev pub rule_text : Bool → List ℕ
+rule_text true = codes "given"
+rule_text false = codes "seed"
+
+pub record RuleRead (old new : List ℕ) (given : Bool) : Type 0 where
+  pub text : old ≡ rule_text given ++ new
+  pub walked : walk 0 (w.Pools ∷ []) (pieces old) ≡ walk 0 (pools_wants given) (pieces new)
+
+-- the values of a pool
+pub record ValuesRead (old new : List ℕ) (terms : List RawTerm) : Type 0 where
+  pub text : old ≡ spaced (map arg_spelling terms) ++ new
+  pub walked : (rest : List Want) → walk 0 (w.Row row.Values 1 0 e.Line ∷ rest) (pieces old) ≡ walk 0 rest (pieces new)
+  pub each : AreValues Kept terms
+  pub some : 0 < length terms
+
+-- A whole line was read that may come at this stage.
+pub record LineRead (stage : Stage) (bytes : List ℕ) (line : RawLine) : Type 0 where
+  pub text : line_spelling line ≡ bytes
+  pub walked : walk 0 (w.Key stage ∷ []) (pieces bytes) ≡ None
+  pub spelled : IsLine Kept line
+  pub allowed : allows stage (line_key line) ≡ true
+  pub form : IsOfVersion stage.version line

@@ -131,3 +131,17 @@ given_after given line = given
 
 abbrev pub stage_after : Stage → RawLine → Stage
 stage_after stage line = record { version = version_after stage.version line; given = given_after stage.given line; last = Some (line_key line) }
+
+-- Sort lines have their numbers from the second version on, and lines of symbols their weight from the
+-- third on.
+abbrev pub IsOfVersion : Version → RawLine → Type 0
+IsOfVersion First (r.SortLine2 name vars width) = ⊥
+IsOfVersion Second (r.SortLine name) = ⊥
+IsOfVersion Third (r.SortLine name) = ⊥
+IsOfVersion First (r.ConLine3 weight name args) = ⊥
+IsOfVersion Second (r.ConLine3 weight name args) = ⊥
+IsOfVersion Third (r.ConLine name args) = ⊥
+IsOfVersion First (r.FunLine3 weight name args result) = ⊥
+IsOfVersion Second (r.FunLine3 weight name args result) = ⊥
+IsOfVersion Third (r.FunLine name args result) = ⊥
+IsOfVersion version line = Unit {0}

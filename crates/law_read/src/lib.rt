@@ -6,8 +6,9 @@ mod error;
 mod line;
 mod part;
 mod raw;
-mod shape;
+mod read;
 mod sig;
+mod sig_lines;
 mod stage;
 mod take;
 mod term;
@@ -16,5 +17,7 @@ mod write;
 
 pub use error::{ReadErr, ReadKind};
 pub use raw::{RawHead, RawLine, RawTerm};
+pub use read::{read_sig, read_term};
 pub use sig::RawSig;
+pub use sig_lines::SigLines;
 pub use write::{write_sig, write_term};

@@ -69,7 +69,7 @@ impl Key {
         }
     }
 
-    fn is(self, other: Key) -> bool
+    pub fn is(self, other: Key) -> bool
         ensures { result ≡ same_key self other }
     {
         self.number() == other.number()
