@@ -4,7 +4,6 @@ pub mod RowNames
 pub mod RowSteps
 pub mod RowWhole
 pub mod LineSteps
-pub mod Feeds
 pub mod Grown
 pub mod Spaced
 pub mod Walks

@@ -21,3 +21,6 @@ pub use read::{read_sig, read_term};
 pub use sig::RawSig;
 pub use sig_lines::SigLines;
 pub use write::{write_sig, write_term};
+
+#[cfg(test)]
+mod tests;

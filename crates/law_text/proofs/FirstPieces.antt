@@ -1,10 +1,10 @@
 -- The first piece of some bytes.
-use Rattle.std.proofs.Common.{◌≡◌, ◌≢◌, ℕ, suc, zero, ◌+◌, ◌<◌, ◌==◌, Bool, true, false, List, [], ◌∷◌, ◌++◌, take, drop, length, refl, ap, sym, ◌∙◌, arith, eqb, cond, subst, ◌&&◌, get_or}
+use Rattle.std.proofs.Common.{◌≡◌, ◌≢◌, ℕ, suc, ◌+◌, ◌<◌, ◌==◌, Bool, true, false, List, [], ◌∷◌, ◌++◌, take, drop, length, refl, ap, sym, ◌∙◌, arith, cond, subst, ◌&&◌, get_or}
 use Rattle.std.specs.List.{prefix_len, list_all}
 use Rattle.std.proofs.lemmas.List.{take-append-drop}
 use Rattle.std.proofs.lemmas.Bool.Decides.{nat_tests}
 use Rattle.law_text.specs.Pieces.{Piece, pieces, is_plain, begun_by, lengthened, FirstPiece}
-use Rattle.law_text.specs.Pieces.Piece.{space, opening, closing, word}
+use Rattle.law_text.specs.Pieces.Piece.{word}
 
 begun_plain : (x y z : Bool) (b : ℕ) (ps : List Piece) → cond x false (cond y false (cond z false true)) ≡ true → begun_by x y z b ps ≡ lengthened b ps
 begun_plain true y z b ps h = absurd cc
