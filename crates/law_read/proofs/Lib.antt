@@ -1,3 +1,8 @@
+pub mod Again
+pub mod AgainTerms
+pub mod AgainAll
+pub mod AgainRoots
+pub mod AgainLines
 pub mod Cuts
 pub mod Parts
 pub mod RowNames

@@ -3,6 +3,7 @@
 
 mod copy;
 mod error;
+mod laws;
 mod line;
 mod part;
 mod raw;
@@ -16,6 +17,7 @@ mod want;
 mod write;
 
 pub use error::{ReadErr, ReadKind};
+pub use laws::spelled_lines_are_read;
 pub use raw::{RawHead, RawLine, RawTerm};
 pub use read::{read_sig, read_term};
 pub use sig::RawSig;

@@ -17,7 +17,7 @@ pub plain_first : (b : ℕ) (bs : List ℕ) → is_plain b ≡ true → pieces (
 plain_first b bs h = begun_plain (b == 32) (b == 40) (b == 41) b (pieces bs) h
 
 -- what no word begins: it is empty, or its first byte is a space or a bracket
-pub begins_apart : List ℕ → Bool
+unfoldable pub begins_apart : List ℕ → Bool
 begins_apart [] = true
 begins_apart (b ∷ bs) = cond (is_plain b) false true
 
