@@ -1,36 +1,30 @@
 -- What is spelled is read: pieces, names and terms.
-use Rattle.std.proofs.Common.{◌≡◌, ℕ, zero, suc, ◌+◌, ◌-◌, ◌<◌, ◌≤◌, ◌^◌, Bool, true, false, ◌&&◌, ◌||◌, ◌==◌, List, [], ◌∷◌, ◌++◌, Option, Some, None, refl, ap, sym, subst, ◌∙◌, arith, map, length, sum, nat_lt, nat_le, decimal, codes, cond, is_some, ◌⊎◌}
+use Rattle.std.proofs.Common.{◌≡◌, ℕ, ◌+◌, ◌<◌, ◌^◌, Bool, true, false, ◌&&◌, ◌||◌, ◌==◌, List, [], ◌∷◌, ◌++◌, Some, refl, ap, sym, ◌∙◌, arith, length, nat_lt, decimal, is_some}
 use Rattle.std.proofs.lemmas.Bool.Decides.{nat_tests}
 use Rattle.std.proofs.lemmas.Grind.{common_steps}
-use Rattle.std.proofs.lemmas.List.{append_assoc, append-nil, length-map}
-use Rattle.std.specs.List.{list_all, AllByRecursion}
+use Rattle.std.proofs.lemmas.List.{append-nil}
+use Rattle.std.specs.List.{list_all}
 use Rattle.std.specs.Str.{bytes_eq}
-use Rattle.law_text.specs.Words.{is_name_byte, is_letter, is_digit, is_word_of_letters, is_numeral, number_below}
+use Rattle.law_text.specs.Words.{is_name_byte, is_letter, is_digit, is_word_of_letters, is_numeral}
 use Rattle.law_text.specs.Pieces.{Piece, pieces, is_plain}
-use Rattle.law_text.specs.Pieces.Piece.{space, opening, closing, word}
+use Rattle.law_text.specs.Pieces.Piece.{space, word}
 use Rattle.law_text.proofs.FirstPieces.{begins_apart, word_first}
 use Rattle.law_text.proofs.Numbers.{decimal_numeral, number_of_decimal}
 use Rattle.law_read.specs.declared.raw.RawHead.{RawHead}
 use Rattle.law_read.specs.declared.raw.RawHead.TheVariants.{Name, Var, Param, Field}
-use Rattle.law_read.specs.declared.raw.RawTerm.{RawTerm}
 use Rattle.law_read.specs.declared.want.Want.{Want}
 use Rattle.law_read.specs.declared.want.Want.TheVariants as w
 use Rattle.law_read.specs.declared.want.Bounds.TheVariants.{Kept}
 use Rattle.law_read.specs.declared.want.Place.{Place}
 use Rattle.law_read.specs.declared.want.Place.TheVariants as p
-use Rattle.law_read.specs.declared.want.Mark.{Mark}
 use Rattle.law_read.specs.declared.want.Mark.TheVariants.{Equals, Arrow, Height, Count}
 use Rattle.law_read.specs.declared.want.Row.{Row}
-use Rattle.law_read.specs.declared.want.Row.TheVariants as r
 use Rattle.law_read.specs.declared.want.Ending.{Ending}
 use Rattle.law_read.specs.declared.want.Ending.TheVariants as e
-use Rattle.law_read.specs.declared.error.ReadKind.{ReadKind}
-use Rattle.law_read.specs.Spelling.{head_spelling, spaced}
+use Rattle.law_read.specs.Spelling.{head_spelling}
 use Rattle.law_read.specs.Terms.{is_name_in, head_fits, within}
-use Rattle.law_read.specs.Walk.{walk, takes, takes_word, moved, word_moved, kind_at, step, mark_text, is_number, is_index, cut, cut_by, is_variable, is_numbered, is_special, is_atom, is_item, is_mark, has_mark, may_come, item_moved, before_item, end_fault, ends}
-use Rattle.law_read.specs.Rows.{HasRoom, IsNameRow, IsTermRow}
+use Rattle.law_read.specs.Walk.{walk, takes, takes_word, moved, word_moved, kind_at, step, is_number, is_index, cut, cut_by, is_variable, is_special, is_atom, is_item, is_mark, has_mark, may_come, item_moved, before_item}
 use Rattle.law_read.proofs.RowSteps.{both}
-use Rattle.law_read.proofs.Cuts.{no_cut}
 
 -- single pieces
 pub taken_on : (n : ℕ) (want : Want) (rest : List Want) (piece : Piece) (ps : List Piece) → takes Kept n want piece ≡ true
@@ -89,7 +83,7 @@ unfolding is_solid
 some_solid [] h some = absurd (omega arith)
 some_solid (b ∷ bytes) h some = h
 
-letters_some : (bytes : List ℕ) → is_word_of_letters bytes ≡ true → 0 < length bytes
+pub letters_some : (bytes : List ℕ) → is_word_of_letters bytes ≡ true → 0 < length bytes
 letters_some [] h = absurd cc
 letters_some (b ∷ bytes) h = omega arith
 
@@ -98,12 +92,12 @@ name_solid bytes h =
     let letters = (both (is_word_of_letters bytes) (within Kept 32 (length bytes)) h).0 in
     some_solid bytes (all_plain is_name_byte bytes name_plain (all_named bytes letters)) (letters_some bytes letters)
 
-numeral_digits : (bytes : List ℕ) → is_numeral bytes ≡ true → list_all is_digit bytes ≡ true
+pub numeral_digits : (bytes : List ℕ) → is_numeral bytes ≡ true → list_all is_digit bytes ≡ true
 numeral_digits [] h = absurd cc
 numeral_digits (a ∷ []) h = ap (λ t. t && true) h
 numeral_digits (a ∷ b ∷ bytes) h = grind (arith, nat_tests)
 
-numeral_some : (bytes : List ℕ) → is_numeral bytes ≡ true → 0 < length bytes
+pub numeral_some : (bytes : List ℕ) → is_numeral bytes ≡ true → 0 < length bytes
 numeral_some [] h = absurd cc
 numeral_some (a ∷ bytes) h = omega arith
 
@@ -130,7 +124,7 @@ cut_at_dot (b ∷ sort) index h =
     not_dot : (b : ℕ) → is_name_byte b ≡ true → (b == 46) ≡ false
     not_dot b h = grind (arith, nat_tests)
 
-less_of : (n k : ℕ) → nat_lt n k ≡ true → n < k
+pub less_of : (n k : ℕ) → nat_lt n k ≡ true → n < k
 less_of n k h = grind (arith, nat_tests)
 
 or_true : (a b : Bool) → b ≡ true → (a || b) ≡ true

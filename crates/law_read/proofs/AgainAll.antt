@@ -1,11 +1,10 @@
 -- What is spelled is read: whole terms.
-use Rattle.std.proofs.Common.{◌≡◌, ℕ, zero, suc, ◌+◌, ◌-◌, ◌<◌, ◌≤◌, Bool, true, false, ◌&&◌, List, [], ◌∷◌, ◌++◌, refl, ap, sym, subst, ◌∙◌, arith, map, length, sum, nat_lt, nat_le}
+use Rattle.std.proofs.Common.{◌≡◌, ℕ, suc, ◌+◌, ◌≤◌, Bool, true, false, ◌&&◌, List, [], ◌∷◌, ◌++◌, refl, ap, sym, subst, ◌∙◌, arith, map, length, sum, nat_lt, nat_le}
 use Rattle.std.proofs.lemmas.Bool.Decides.{nat_tests}
 use Rattle.std.proofs.lemmas.List.{append_assoc, length-map}
 use Rattle.std.specs.List.{list_all, AllByRecursion}
 use Rattle.law_text.specs.Pieces.{pieces}
 use Rattle.law_text.specs.Pieces.Piece.{opening, closing}
-use Rattle.law_text.proofs.FirstPieces.{begins_apart}
 use Rattle.law_read.specs.declared.raw.RawHead.{RawHead}
 use Rattle.law_read.specs.declared.raw.RawHead.TheVariants.{Name, Var, Param, Field}
 use Rattle.law_read.specs.declared.raw.RawTerm.{RawTerm}
@@ -17,16 +16,13 @@ use Rattle.law_read.specs.declared.want.Want.TheVariants as w
 use Rattle.law_read.specs.declared.want.Bounds.TheVariants.{Kept}
 use Rattle.law_read.specs.declared.want.Place.{Place}
 use Rattle.law_read.specs.declared.want.Place.TheVariants as p
-use Rattle.law_read.specs.declared.want.Row.{Row}
 use Rattle.law_read.specs.declared.want.Row.TheVariants as r
-use Rattle.law_read.specs.declared.want.Ending.{Ending}
 use Rattle.law_read.specs.declared.want.Ending.TheVariants as e
-use Rattle.law_read.specs.Spelling.{arg_spelling, arg_step, bracketed, head_spelling, spaced}
-use Rattle.law_read.specs.Terms.{depth, head_fits, is_empty, is_name_in, largest, node_count, node_fits, nodes_fit}
+use Rattle.law_read.specs.Spelling.{arg_spelling, arg_step, head_spelling, spaced}
+use Rattle.law_read.specs.Terms.{depth, head_fits, is_name_in, largest, node_count, node_fits, nodes_fit}
 use Rattle.law_read.specs.Walk.{walk, before_item, item_place}
-use Rattle.law_read.specs.Rows.{HasRoom, IsTermRow}
 use Rattle.law_read.proofs.RowSteps.{both, leaf_text, leaf_count, leaf_depth}
-use Rattle.law_read.proofs.Again.{RowMark, apart_close, apart_space, head_atom, item_on, name_solid, taken_on, word_on}
+use Rattle.law_read.proofs.Again.{apart_close, apart_space, head_atom, item_on, name_solid, taken_on, word_on}
 use Rattle.law_read.proofs.AgainTerms.{Reread, atom_item, item_may, item_opens, node_some, depth_some, sum_more, larger_both, terms_on}
 
 leaf_again : (head : RawHead) → Reread (roll-RawTerm (record { head = head; args = [] }))

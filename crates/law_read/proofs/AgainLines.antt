@@ -1,5 +1,5 @@
 -- What is spelled is read: whole lines.
-use Rattle.std.proofs.Common.{◌≡◌, ℕ, ◌+◌, ◌<◌, ◌≤◌, ◌^◌, Bool, true, false, ◌&&◌, ◌||◌, List, [], ◌∷◌, ◌++◌, Option, Some, None, refl, ap, sym, subst, ◌∙◌, arith, map, length, nat_lt, nat_le, decimal, codes}
+use Rattle.std.proofs.Common.{◌≡◌, ℕ, ◌+◌, ◌<◌, ◌≤◌, ◌^◌, true, ◌||◌, List, [], ◌∷◌, ◌++◌, Some, None, refl, ap, sym, ◌∙◌, arith, map, length, nat_le, decimal, codes}
 use Rattle.std.proofs.lemmas.Bool.Decides.{nat_tests}
 use Rattle.std.proofs.lemmas.List.{append-nil}
 use Rattle.std.specs.List.{list_all}
@@ -7,7 +7,6 @@ use Rattle.std.specs.Str.{bytes_eq}
 use Rattle.law_text.specs.Pieces.{pieces}
 use Rattle.law_text.proofs.FirstPieces.{begins_apart}
 use Rattle.law_read.specs.declared.raw.RawTerm.{RawTerm}
-use Rattle.law_read.specs.declared.raw.RawLine.{RawLine}
 use Rattle.law_read.specs.declared.raw.RawLine.TheVariants as l
 use Rattle.law_read.specs.declared.stage.Version.{Version}
 use Rattle.law_read.specs.declared.stage.Version.TheVariants.{First, Second, Third}
@@ -21,19 +20,18 @@ use Rattle.law_read.specs.declared.want.Place.{Place}
 use Rattle.law_read.specs.declared.want.Place.TheVariants as p
 use Rattle.law_read.specs.declared.want.Mark.{Mark}
 use Rattle.law_read.specs.declared.want.Mark.TheVariants.{Equals, Arrow, Height, Count}
-use Rattle.law_read.specs.declared.want.Row.{Row}
 use Rattle.law_read.specs.declared.want.Row.TheVariants as r
 use Rattle.law_read.specs.declared.want.Ending.TheVariants as e
-use Rattle.law_read.specs.Spelling.{arg_spelling, line_spelling, line_words, spaced, term_words}
-use Rattle.law_read.specs.Terms.{IsTerm, is_name_in, within}
-use Rattle.law_read.specs.Lines.{AreSorts, IsLine}
-use Rattle.law_read.specs.Stages.{IsOfVersion, allows, key_text, line_key}
+use Rattle.law_read.specs.Spelling.{arg_spelling, spaced, term_words}
+use Rattle.law_read.specs.Terms.{IsTerm, is_name_in}
+use Rattle.law_read.specs.Lines.{AreSorts}
+use Rattle.law_read.specs.Stages.{IsOfVersion, allows, key_text}
 use Rattle.law_read.specs.Laws.{SpelledIsWalked}
-use Rattle.law_read.specs.Walk.{walk, allows_found, end_fault, key_of, line_wants, mark_text, pools_wants, seed_wants, setting, wants_found}
+use Rattle.law_read.specs.Walk.{walk, allows_found, key_of, line_wants, mark_text, setting, wants_found}
 use Rattle.law_read.proofs.Spaced.{spaced_append}
 use Rattle.law_read.proofs.Walks.{walk_nil}
 use Rattle.law_read.proofs.Again.{apart_none, apart_space, gap_on, is_solid, name_solid, number_is_number, number_solid, word_on}
-use Rattle.law_read.proofs.AgainTerms.{names_on, NamesRoom}
+use Rattle.law_read.proofs.AgainTerms.{names_on}
 use Rattle.law_read.proofs.AgainRoots.{gap_mark_on, mark_on, root_on, values_on}
 
 apart_words : (words : List (List ℕ)) → begins_apart (spaced words) ≡ true

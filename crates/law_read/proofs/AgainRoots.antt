@@ -1,8 +1,8 @@
 -- What is spelled is read: terms by themselves, and rows of values.
-use Rattle.std.proofs.Common.{◌≡◌, ℕ, zero, suc, ◌+◌, ◌-◌, ◌<◌, ◌≤◌, Bool, true, false, ◌&&◌, ◌||◌, List, [], ◌∷◌, ◌++◌, Option, Some, None, refl, ap, sym, subst, ◌∙◌, arith, map, length, sum, nat_lt, nat_le, decimal}
+use Rattle.std.proofs.Common.{◌≡◌, ℕ, ◌+◌, ◌<◌, ◌≤◌, Bool, true, false, ◌&&◌, List, [], ◌∷◌, ◌++◌, Some, None, refl, ap, sym, subst, ◌∙◌, arith, map, length, sum, nat_lt, nat_le, decimal}
 use Rattle.std.proofs.lemmas.Bool.Decides.{nat_tests}
-use Rattle.std.proofs.lemmas.List.{append_assoc, append-nil, length-map}
-use Rattle.std.specs.List.{list_all, AllByRecursion}
+use Rattle.std.proofs.lemmas.List.{length-map}
+use Rattle.std.specs.List.{list_all}
 use Rattle.law_text.specs.Words.{is_word_of_letters}
 use Rattle.law_text.specs.Pieces.{pieces}
 use Rattle.law_text.specs.Pieces.Piece.{space}
@@ -10,7 +10,6 @@ use Rattle.law_text.proofs.FirstPieces.{begins_apart}
 use Rattle.law_read.specs.declared.raw.RawHead.{RawHead}
 use Rattle.law_read.specs.declared.raw.RawHead.TheVariants.{Name, Var, Param, Field}
 use Rattle.law_read.specs.declared.raw.RawTerm.{RawTerm}
-use Rattle.law_read.specs.declared.raw.RawTerm.TheOpen.{RawTerm-F}
 use Rattle.law_read.specs.declared.raw.RawTerm.TheFolds.{fold_out-RawTerm}
 use Rattle.law_read.specs.declared.raw.RawTerm.TheViews.{out-RawTerm}
 use Rattle.law_read.specs.declared.want.Want.{Want}
@@ -27,12 +26,12 @@ use Rattle.law_read.specs.declared.want.Ending.TheVariants as e
 use Rattle.law_read.specs.Spelling.{arg_spelling, head_spelling, spaced, term_words}
 use Rattle.law_read.specs.Terms.{IsTerm, depth, head_fits, is_empty, is_name_in, largest, node_count, node_fits, nodes_fit, within}
 use Rattle.law_read.specs.Lines.{AreValues}
-use Rattle.law_read.specs.Walk.{walk, behind, is_atom, cut, end_fault, enough, is_mark, item_moved, mark_text, may_come, is_item, root_moved}
+use Rattle.law_read.specs.Walk.{walk, behind, is_atom, cut, end_fault, mark_text, root_moved}
 use Rattle.law_read.proofs.RowSteps.{both}
 use Rattle.law_read.proofs.Cuts.{no_cut}
 use Rattle.law_read.proofs.Walks.{walk_nil}
 use Rattle.law_read.proofs.Again.{RowMark, all_named, apart_none, apart_space, cut_at_dot, gap_on, head_atom, is_solid, name_solid, or_left, space_on, taken_on, word_on}
-use Rattle.law_read.proofs.AgainTerms.{apart_spaced, spaced_is, sum_more, terms_on, low, node_some, depth_some, item_may, counted}
+use Rattle.law_read.proofs.AgainTerms.{apart_spaced, spaced_is, terms_on}
 use Rattle.law_read.proofs.AgainAll.{again, all_again, low_of}
 
 -- behind a row: the fixed word, or the end

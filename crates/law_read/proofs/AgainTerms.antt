@@ -1,36 +1,26 @@
 -- What is spelled is read: rows of names and terms.
-use Rattle.std.proofs.Common.{◌≡◌, ℕ, zero, suc, ◌+◌, ◌-◌, ◌<◌, ◌≤◌, Bool, true, false, ◌&&◌, List, [], ◌∷◌, ◌++◌, Option, Some, None, refl, ap, sym, subst, ◌∙◌, arith, map, length, sum, nat_lt, nat_le}
+use Rattle.std.proofs.Common.{◌≡◌, ℕ, suc, ◌+◌, ◌<◌, ◌≤◌, Bool, true, false, List, [], ◌∷◌, ◌++◌, refl, ap, ◌∙◌, arith, map, length, sum, nat_lt, nat_le}
 use Rattle.std.proofs.lemmas.Bool.Decides.{nat_tests}
 use Rattle.std.proofs.lemmas.Grind.{common_steps}
-use Rattle.std.proofs.lemmas.List.{append_assoc, length-map}
+use Rattle.std.proofs.lemmas.List.{append_assoc}
 use Rattle.std.specs.List.{list_all, AllByRecursion}
 use Rattle.law_text.specs.Pieces.{pieces}
-use Rattle.law_text.specs.Pieces.Piece.{space, opening, closing}
 use Rattle.law_text.proofs.FirstPieces.{begins_apart}
-use Rattle.law_read.specs.declared.raw.RawHead.{RawHead}
-use Rattle.law_read.specs.declared.raw.RawHead.TheVariants.{Name, Var, Param, Field}
 use Rattle.law_read.specs.declared.raw.RawTerm.{RawTerm}
-use Rattle.law_read.specs.declared.raw.RawTerm.TheOpen.{RawTerm-F}
-use Rattle.law_read.specs.declared.raw.RawTerm.TheFolds.{fold-RawTerm, fold-roll-RawTerm, fold_out-RawTerm, ind-RawTerm, map-RawTerm}
-use Rattle.law_read.specs.declared.raw.RawTerm.TheViews.{roll-RawTerm, out-RawTerm}
+use Rattle.law_read.specs.declared.raw.RawTerm.TheFolds.{fold_out-RawTerm}
 use Rattle.law_read.specs.declared.want.Want.{Want}
 use Rattle.law_read.specs.declared.want.Want.TheVariants as w
 use Rattle.law_read.specs.declared.want.Bounds.TheVariants.{Kept}
 use Rattle.law_read.specs.declared.want.Place.{Place}
-use Rattle.law_read.specs.declared.want.Place.TheVariants as p
-use Rattle.law_read.specs.declared.want.Mark.{Mark}
-use Rattle.law_read.specs.declared.want.Mark.TheVariants.{Equals, Arrow, Height, Count}
 use Rattle.law_read.specs.declared.want.Row.{Row}
 use Rattle.law_read.specs.declared.want.Row.TheVariants as r
 use Rattle.law_read.specs.declared.want.Ending.{Ending}
-use Rattle.law_read.specs.declared.want.Ending.TheVariants as e
-use Rattle.law_read.specs.Spelling.{arg_spelling, arg_step, bracketed, head_spelling, spaced}
-use Rattle.law_read.specs.Terms.{depth, head_fits, is_empty, is_name_in, larger, largest, node_count, node_fits, nodes_fit, within}
-use Rattle.law_read.specs.Walk.{walk, takes, mark_text, is_atom, is_item, is_mark, may_come, may_open, before_item, item_place, item_moved, end_fault, ends}
-use Rattle.law_read.specs.Rows.{HasRoom, IsNameRow, IsTermRow}
-use Rattle.law_read.proofs.RowSteps.{both, leaf_fits, leaf_text, leaf_count, leaf_depth}
-use Rattle.law_read.proofs.Walks.{walk_nil}
-use Rattle.law_read.proofs.Again.{IsAtomWord, RowMark, apart_close, apart_space, head_atom, is_solid, item_on, name_solid, space_on, taken_on, word_on, name_unmarked, and_true}
+use Rattle.law_read.specs.Spelling.{arg_spelling, spaced}
+use Rattle.law_read.specs.Terms.{depth, is_name_in, larger, largest, node_count, nodes_fit}
+use Rattle.law_read.specs.Walk.{walk, is_atom, is_item, may_come, may_open, before_item, item_place}
+use Rattle.law_read.specs.Rows.{HasRoom, IsTermRow}
+use Rattle.law_read.proofs.RowSteps.{both}
+use Rattle.law_read.proofs.Again.{RowMark, apart_space, item_on, name_solid, space_on, name_unmarked, and_true}
 
 pub less : (n k : ℕ) → n < k → nat_lt n k ≡ true
 less n k h = grind (arith, nat_tests)

@@ -1,5 +1,5 @@
 -- The first dot of a word, and the atoms that aren't names.
-use Rattle.std.proofs.Common.{◌≡◌, ◌≢◌, ℕ, suc, ◌+◌, ◌<◌, ◌^◌, ◌==◌, Bool, true, false, ◌&&◌, ◌||◌, List, [], ◌∷◌, ◌++◌, Option, Some, None, refl, ap, sym, subst, ◌∙◌, arith, nat_lt, decimal}
+use Rattle.std.proofs.Common.{◌≡◌, ℕ, ◌<◌, ◌^◌, ◌==◌, Bool, true, false, ◌&&◌, ◌||◌, List, [], ◌∷◌, ◌++◌, Option, Some, None, refl, ap, sym, subst, ◌∙◌, arith, nat_lt, decimal}
 use Rattle.std.proofs.lemmas.Bool.Decides.{nat_tests}
 use Rattle.law_read.specs.declared.raw.RawHead.TheVariants.{Var}
 use Rattle.std.specs.List.{list_all}
@@ -9,7 +9,7 @@ use Rattle.law_read.specs.declared.want.Place.{Place}
 use Rattle.law_read.specs.declared.want.Bounds.TheVariants.{Kept}
 use Rattle.law_read.specs.declared.want.Place.TheVariants as p
 use Rattle.law_read.specs.Terms.{is_name_in}
-use Rattle.law_read.specs.Walk.{cut, cut_by, is_variable, is_index, is_special, is_atom, is_numbered}
+use Rattle.law_read.specs.Walk.{cut, cut_by, is_variable, is_index, is_special, is_atom}
 use Rattle.law_read.specs.Rows.{AtomRead}
 
 -- parts behind more bytes

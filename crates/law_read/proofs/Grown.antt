@@ -9,7 +9,7 @@ use Rattle.law_read.specs.Lines.{IsLine}
 use Rattle.law_read.specs.Stages.{allows, line_key, stage_after, IsOfVersion}
 use Rattle.law_read.specs.Signature.{InOrder, start, stage_behind}
 use Rattle.law_read.specs.Faults.{is_closed_by, line_fault}
-use Rattle.law_read.specs.Progress.{IsProgress, LineTaken, Added, Progress}
+use Rattle.law_read.specs.Progress.{IsProgress, LineTaken, Added}
 
 stage_more : (stage : Stage) (lines : List RawLine) (line : RawLine) → stage_behind stage (lines ++ line ∷ []) ≡ stage_after (stage_behind stage lines) line
 stage_more stage [] line = refl

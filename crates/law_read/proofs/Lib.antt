@@ -3,6 +3,8 @@ pub mod AgainTerms
 pub mod AgainAll
 pub mod AgainRoots
 pub mod AgainLines
+pub mod Clean
+pub mod CleanLines
 pub mod Cuts
 pub mod Parts
 pub mod RowNames

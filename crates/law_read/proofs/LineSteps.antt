@@ -1,5 +1,5 @@
 -- Whole lines.
-use Rattle.std.proofs.Common.{◌≡◌, ℕ, ◌+◌, ◌<◌, ◌≤◌, Bool, true, false, ◌||◌, List, [], ◌∷◌, ◌++◌, Option, Some, None, refl, ap, sym, subst, ◌∙◌, arith, length, nat_lt, nat_le, codes, IsTrue}
+use Rattle.std.proofs.Common.{◌≡◌, ℕ, ◌<◌, ◌≤◌, Bool, true, false, ◌||◌, List, [], ◌∷◌, ◌++◌, Some, refl, ap, sym, subst, ◌∙◌, arith, length, nat_lt, nat_le, codes}
 use Rattle.std.proofs.lemmas.Bool.Decides.{nat_tests}
 use Rattle.std.proofs.lemmas.List.{append-nil}
 use Rattle.std.specs.Str.{bytes_eq}
@@ -8,20 +8,16 @@ use Rattle.law_text.specs.Pieces.Piece.{word}
 use Rattle.law_read.specs.declared.raw.RawTerm.{RawTerm}
 use Rattle.law_read.specs.declared.raw.RawLine.{RawLine}
 use Rattle.law_read.specs.declared.error.Stop.{Stop}
-use Rattle.law_read.specs.declared.error.ReadKind.{ReadKind}
 use Rattle.law_read.specs.declared.stage.Key.{Key}
 use Rattle.law_read.specs.declared.stage.Stage.{Stage}
-use Rattle.law_read.specs.declared.want.Want.{Want}
 use Rattle.law_read.specs.declared.want.Want.TheVariants as w
 use Rattle.law_read.specs.declared.want.Row.TheVariants as r
 use Rattle.law_read.specs.declared.want.Ending.TheVariants as e
 use Rattle.law_read.specs.declared.want.Bounds.TheVariants.{Kept}
-use Rattle.law_read.specs.declared.want.Place.TheVariants as p
-use Rattle.law_read.specs.Terms.{IsTerm, node_count, depth}
+use Rattle.law_read.specs.Terms.{node_count, depth}
 use Rattle.law_read.specs.Lines.{AreValues}
-use Rattle.law_read.specs.Stages.{allows, key_text, line_key}
-use Rattle.law_read.specs.Spelling.{line_spelling}
-use Rattle.law_read.specs.Walk.{walk, all_keys, chosen_key, key_in, key_of, allows_found, wants_found, line_wants, pools_wants, is_version}
+use Rattle.law_read.specs.Stages.{allows, key_text}
+use Rattle.law_read.specs.Walk.{walk, all_keys, chosen_key, key_in, key_of, allows_found, wants_found, line_wants, pools_wants}
 use Rattle.law_read.specs.Reads.{Stops, TookWord, Reads}
 use Rattle.law_read.specs.Rows.{AllFit, RowRead}
 use Rattle.law_read.specs.LineReads.{LineRead, RestRead, RuleRead, ValuesRead, rule_text}

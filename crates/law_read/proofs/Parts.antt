@@ -1,12 +1,10 @@
 -- A word or a space that was taken, as a part of the line that was read.
-use Rattle.std.proofs.Common.{◌≡◌, ℕ, ◌<◌, ◌^◌, Bool, true, false, ◌&&◌, List, [], ◌∷◌, ◌++◌, Option, Some, None, refl, ap, sym, subst, ◌∙◌, arith, IsTrue, decimal, Decides}
+use Rattle.std.proofs.Common.{◌≡◌, ℕ, true, List, [], ◌∷◌, ◌++◌, ap, sym, ◌∙◌, decimal}
 use Rattle.std.proofs.lemmas.Slice.Eq.{bytes_eq-Decides}
 use Rattle.std.specs.Str.{bytes_eq}
-use Rattle.law_text.specs.Pieces.{Piece, pieces}
-use Rattle.law_text.specs.Pieces.Piece.{space, opening, closing, word}
+use Rattle.law_text.specs.Pieces.Piece.{space, word}
 use Rattle.law_text.specs.declared.token.Token.TheVariants as t
 use Rattle.law_read.specs.declared.want.Mark.{Mark}
-use Rattle.law_read.specs.declared.want.Want.{Want}
 use Rattle.law_read.specs.declared.want.Want.TheVariants as w
 use Rattle.law_read.specs.Walk.{mark_text}
 use Rattle.law_read.specs.Reads.{Took, TookWord, Reads}

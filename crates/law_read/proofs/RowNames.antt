@@ -1,7 +1,7 @@
 -- Rows of names, and whole terms.
-use Rattle.std.proofs.Common.{◌≡◌, ℕ, zero, suc, ◌+◌, ◌<◌, ◌≤◌, Bool, true, false, ◌&&◌, ◌||◌, List, [], ◌∷◌, ◌++◌, refl, ap, sym, subst, ◌∙◌, arith, map, length, sum, nat_le, nat_lt}
+use Rattle.std.proofs.Common.{◌≡◌, ℕ, ◌+◌, ◌≤◌, Bool, true, false, ◌&&◌, List, [], ◌∷◌, ◌++◌, refl, ap, sym, subst, ◌∙◌, arith, map, length, sum, nat_le}
 use Rattle.std.proofs.lemmas.Bool.Decides.{nat_tests}
-use Rattle.std.proofs.lemmas.List.{append_assoc, length-append, length-map, append-nil}
+use Rattle.std.proofs.lemmas.List.{append_assoc, length-map, append-nil}
 use Rattle.std.specs.List.{list_all}
 use Rattle.law_text.specs.Words.{is_word_of_letters}
 use Rattle.law_text.specs.Pieces.{pieces}
@@ -22,14 +22,14 @@ use Rattle.law_read.specs.declared.want.Ending.{Ending}
 use Rattle.law_read.specs.declared.want.Ending.TheVariants as e
 use Rattle.law_read.specs.declared.error.Stop.{Stop}
 use Rattle.law_read.specs.Spelling.{arg_spelling, spaced, head_spelling, term_spelling}
-use Rattle.law_read.specs.Terms.{nodes_fit, node_fits, node_count, depth, largest, is_name_in, IsTerm}
-use Rattle.law_read.specs.Walk.{walk, behind, is_mark, is_item, may_come, item_moved, root_moved, is_atom, is_special}
+use Rattle.law_read.specs.Terms.{nodes_fit, node_fits, largest, is_name_in}
+use Rattle.law_read.specs.Walk.{walk, behind, is_mark, is_item, may_come, item_moved, root_moved}
 use Rattle.law_read.specs.Reads.{Stops, TookWord}
 use Rattle.law_read.specs.Rows.{RowEnds, RowGoes, MarkRead, HasRoom, IsFew, RowRead, RootRead, BehindRead, AtomRead, NameRead, NamesSoFar, NamesRead, IsNameRow, IsRootEnding, closer, nodes_behind}
 use Rattle.law_read.proofs.Walks.{goes_on}
 use Rattle.law_read.proofs.Cuts.{name_taken}
 use Rattle.law_read.proofs.Spaced.{spaced_append}
-use Rattle.law_read.proofs.RowSteps.{both, taken_item, leaf_fits, leaf_text, leaf_count, leaf_depth}
+use Rattle.law_read.proofs.RowSteps.{both, taken_item, leaf_fits, leaf_count, leaf_depth}
 use Rattle.law_read.proofs.RowWhole.{stops_later, each_fits, adds_up, is_low, not_deep, few_fit, one_more, still_few, shorter}
 
 -- one name of a row

@@ -1,17 +1,13 @@
 -- Steps of the readers of rows.
-use Rattle.std.proofs.Common.{◌≡◌, ℕ, zero, suc, ◌+◌, ◌<◌, ◌≤◌, Bool, true, false, ◌&&◌, ◌||◌, List, [], ◌∷◌, ◌++◌, Option, Some, None, refl, ap, sym, subst, ◌∙◌, arith, IsTrue, map, length, sum, nat_lt, nat_le}
+use Rattle.std.proofs.Common.{◌≡◌, ℕ, ◌+◌, ◌<◌, ◌≤◌, Bool, true, false, ◌&&◌, ◌||◌, List, [], ◌∷◌, ◌++◌, refl, ap, sym, subst, ◌∙◌, arith, sum, nat_lt, nat_le}
 use Rattle.std.proofs.lemmas.Bool.Decides.{nat_tests}
-use Rattle.std.specs.List.{list_all}
 use Rattle.law_text.specs.Pieces.{pieces}
 use Rattle.law_text.specs.Pieces.Piece.{space, opening, closing, word}
 use Rattle.law_text.specs.declared.token.Token.TheVariants as t
 use Rattle.law_read.specs.declared.raw.RawHead.{RawHead}
-use Rattle.law_read.specs.declared.raw.RawHead.TheVariants.{Name}
 use Rattle.law_read.specs.declared.raw.RawTerm.{RawTerm}
-use Rattle.law_read.specs.declared.raw.RawTerm.TheOpen.{RawTerm-F}
-use Rattle.law_read.specs.declared.raw.RawTerm.TheFolds.{fold-RawTerm, fold-roll-RawTerm}
-use Rattle.law_read.specs.declared.raw.RawTerm.TheViews.{out-RawTerm, roll-RawTerm}
-use Rattle.law_read.specs.declared.want.Want.{Want}
+use Rattle.law_read.specs.declared.raw.RawTerm.TheFolds.{fold-roll-RawTerm}
+use Rattle.law_read.specs.declared.raw.RawTerm.TheViews.{roll-RawTerm}
 use Rattle.law_read.specs.declared.want.Want.TheVariants as w
 use Rattle.law_read.specs.declared.want.Bounds.TheVariants.{Kept}
 use Rattle.law_read.specs.declared.want.Place.{Place}
@@ -19,11 +15,11 @@ use Rattle.law_read.specs.declared.want.Row.{Row}
 use Rattle.law_read.specs.declared.want.Row.TheVariants as r
 use Rattle.law_read.specs.declared.want.Ending.{Ending}
 use Rattle.law_read.specs.declared.want.Ending.TheVariants as e
-use Rattle.law_read.specs.Spelling.{arg_spelling, arg_step, spaced, head_spelling, term_spelling, bracketed}
-use Rattle.law_read.specs.Terms.{nodes_fit, node_fits, node_count, depth, head_fits, largest, is_name_in, within}
-use Rattle.law_read.specs.Walk.{walk, before_item, item_place, mark_text, enough, ends, end_fault, is_mark, is_atom, is_item, may_come, may_open, item_moved, below}
-use Rattle.law_read.specs.Reads.{Stops, Took, TookWord, Ended}
-use Rattle.law_read.specs.Rows.{RowEnds, RowGoes, MarkRead, ItemRead, BracketRead, Fits, HasRoom, IsFew, IsTermRow, AllFit, RowSoFar, RowRead, AtomRead, closer, nodes_behind, is_enough}
+use Rattle.law_read.specs.Spelling.{arg_spelling, arg_step, head_spelling}
+use Rattle.law_read.specs.Terms.{nodes_fit, node_fits, node_count, depth, head_fits, largest}
+use Rattle.law_read.specs.Walk.{walk, before_item, item_place, mark_text, ends, end_fault, is_mark, is_atom, is_item, may_come, may_open, item_moved}
+use Rattle.law_read.specs.Reads.{Took, Ended}
+use Rattle.law_read.specs.Rows.{RowEnds, RowGoes, MarkRead, ItemRead, BracketRead, HasRoom, IsTermRow, AtomRead}
 use Rattle.law_read.proofs.Walks.{goes_on, walk_nil}
 use Rattle.law_read.proofs.Parts.{same_bytes}
 

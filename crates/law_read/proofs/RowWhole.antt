@@ -1,5 +1,5 @@
 -- Whole rows and terms in brackets.
-use Rattle.std.proofs.Common.{◌≡◌, ℕ, zero, suc, ◌+◌, ◌-◌, ◌<◌, ◌≤◌, Bool, true, false, ◌&&◌, List, [], ◌∷◌, ◌++◌, Option, refl, ap, sym, subst, ◌∙◌, arith, map, length, sum, nat_le}
+use Rattle.std.proofs.Common.{◌≡◌, ℕ, ◌+◌, ◌-◌, ◌<◌, ◌≤◌, Bool, true, false, ◌&&◌, List, [], ◌∷◌, ◌++◌, Option, refl, ap, sym, subst, ◌∙◌, arith, map, length, sum, nat_le}
 use Rattle.std.proofs.lemmas.Bool.Decides.{nat_tests}
 use Rattle.std.proofs.lemmas.Grind.{common_steps}
 use Rattle.std.proofs.lemmas.List.{append_assoc, length-append, length-map, map-append, append-nil}
@@ -23,10 +23,10 @@ use Rattle.law_read.specs.declared.want.Ending.TheVariants as e
 use Rattle.law_read.specs.declared.error.Stop.{Stop}
 use Rattle.law_read.specs.declared.error.ReadKind.{ReadKind}
 use Rattle.law_read.specs.Spelling.{arg_spelling, arg_step, spaced, bracketed}
-use Rattle.law_read.specs.Terms.{nodes_fit, node_fits, node_count, depth, largest, larger, is_name_in, is_empty}
+use Rattle.law_read.specs.Terms.{nodes_fit, node_fits, node_count, depth, largest, larger, is_name_in}
 use Rattle.law_read.specs.Walk.{walk, before_item, item_place, is_mark}
 use Rattle.law_read.specs.Reads.{Stops, Took, TookWord}
-use Rattle.law_read.specs.Rows.{AtomRead, IsTermRow, RowEnds, RowStep, RowGoes, MarkRead, ItemRead, BracketRead, Fits, HasRoom, IsFew, AllFit, RowSoFar, RowRead, closer, nodes_behind, is_enough}
+use Rattle.law_read.specs.Rows.{AtomRead, IsTermRow, RowEnds, RowStep, RowGoes, MarkRead, ItemRead, BracketRead, Fits, HasRoom, IsFew, AllFit, RowSoFar, RowRead}
 use Rattle.law_read.proofs.Walks.{goes_on}
 use Rattle.law_read.proofs.RowSteps.{item_opened, item_word}
 use Rattle.law_read.proofs.Spaced.{spaced_append}

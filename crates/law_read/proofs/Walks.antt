@@ -1,7 +1,7 @@
 -- Single steps of the walk.
-use Rattle.std.proofs.Common.{◌≡◌, ℕ, Bool, true, false, ◌&&◌, List, [], ◌∷◌, Option, Some, None, refl, ap, ◌∙◌}
+use Rattle.std.proofs.Common.{◌≡◌, ℕ, true, false, ◌&&◌, List, [], ◌∷◌, Some, None, refl, ap, ◌∙◌}
 use Rattle.law_text.specs.Pieces.{Piece, pieces}
-use Rattle.law_text.specs.Pieces.Piece.{space, opening, closing, word}
+use Rattle.law_text.specs.Pieces.Piece.{space, opening, closing}
 use Rattle.law_read.specs.declared.error.ReadKind.TheVariants as k
 use Rattle.law_read.specs.declared.want.Bounds.TheVariants.{Kept}
 use Rattle.law_read.specs.declared.want.Want.{Want}

@@ -1,8 +1,7 @@
 -- Why a line has no reading: the kinds, in the order in which they are looked for.
-use Rattle.std.specs.Prelude.{◌≡◌, ℕ, ◌+◌, ◌-◌, ◌^◌, Bool, true, false, ◌&&◌, ◌||◌, not, nat_le, ◌==◌, List, [], ◌∷◌, ◌++◌, length, Option, Some, None, min}
+use Rattle.std.specs.Prelude.{ℕ, Bool, true, false, ◌&&◌, not, nat_le, ◌==◌, List, [], ◌∷◌, Option, Some, None}
 use Rattle.std.specs.List.{list_all}
 use Rattle.law_text.specs.Pieces.{pieces}
-use Rattle.law_read.specs.declared.raw.RawLine.{RawLine}
 use Rattle.law_read.specs.declared.want.Want.TheVariants as w
 use Rattle.law_read.specs.declared.want.Place.TheVariants as p
 use Rattle.law_read.specs.declared.want.Ending.TheVariants as e
@@ -12,9 +11,6 @@ use Rattle.law_read.specs.declared.stage.Stage.{Stage}
 use Rattle.law_read.specs.declared.stage.Key.{Key}
 use Rattle.law_read.specs.declared.stage.Key.TheVariants.{End}
 use Rattle.law_read.specs.Stages.{same_key}
-use Rattle.law_read.specs.Spelling.{line_spelling}
-use Rattle.law_read.specs.Lines.{IsLine}
-use Rattle.law_read.specs.Signature.{InOrder, start, stage_behind}
 use Rattle.law_read.specs.Walk.{walk}
 
 -- A line has the bytes from the space to `~`.

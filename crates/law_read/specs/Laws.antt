@@ -1,5 +1,5 @@
 -- Laws of the texts, each proved by the contract of a function in `src/laws.rt`.
-use Rattle.std.specs.Prelude.{◌≡◌, true, List, [], ◌∷◌, None}
+use Rattle.std.specs.Prelude.{◌≡◌, true, [], ◌∷◌, None}
 use Rattle.law_text.specs.Pieces.{pieces}
 use Rattle.law_read.specs.declared.raw.RawLine.{RawLine}
 use Rattle.law_read.specs.declared.want.Want.TheVariants as w
@@ -9,8 +9,14 @@ use Rattle.law_read.specs.Spelling.{line_spelling}
 use Rattle.law_read.specs.Lines.{IsLine}
 use Rattle.law_read.specs.Stages.{IsOfVersion, allows, line_key}
 use Rattle.law_read.specs.Walk.{walk}
+use Rattle.law_read.specs.Faults.{line_fault}
 
 -- A line that may come at a stage and that the grammar spells is read to its end.
 abbrev pub SpelledIsWalked : Type 0
 SpelledIsWalked = (stage : Stage) (line : RawLine) → allows stage (line_key line) ≡ true → IsOfVersion stage.version line → IsLine Kept line
     → walk 0 (w.Key stage ∷ []) (pieces (line_spelling line)) ≡ None
+
+-- It has no fault. So a line that has one is the spelling of no line that may come at the stage.
+abbrev pub SpelledIsRead : Type 0
+SpelledIsRead = (stage : Stage) (line : RawLine) → allows stage (line_key line) ≡ true → IsOfVersion stage.version line → IsLine Kept line
+    → line_fault stage (line_spelling line) ≡ None

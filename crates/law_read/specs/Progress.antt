@@ -1,13 +1,11 @@
 -- What the reader of lines knows: the lines so far, and the line that it refused.
-use Rattle.std.specs.Prelude.{◌≡◌, ℕ, ◌+◌, ◌-◌, ◌^◌, Bool, true, false, List, [], ◌∷◌, ◌++◌, length, Option, Some, None, min, ◌⊎◌, ◌↔◌}
+use Rattle.std.specs.Prelude.{◌≡◌, ℕ, ◌+◌, ◌-◌, ◌^◌, Bool, List, [], ◌∷◌, ◌++◌, length, Option, Some, None, min, ◌⊎◌}
 use Rattle.std.specs.List.{AllByRecursion}
 use Rattle.law_read.specs.declared.raw.RawLine.{RawLine}
-use Rattle.law_read.specs.declared.raw.RawLine.TheVariants as r
 use Rattle.law_read.specs.declared.want.Bounds.TheVariants.{Kept}
 use Rattle.law_read.specs.declared.error.ReadKind.{ReadKind}
 use Rattle.law_read.specs.declared.error.ReadKind.TheVariants as k
 use Rattle.law_read.specs.declared.stage.Stage.{Stage}
-use Rattle.law_read.specs.declared.stage.Key.{Key}
 use Rattle.law_read.specs.declared.stage.Key.TheVariants.{End}
 use Rattle.law_read.specs.Spelling.{line_spelling}
 use Rattle.law_read.specs.Lines.{IsLine}

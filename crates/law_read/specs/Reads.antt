@@ -1,5 +1,5 @@
 -- What the readers of the parts of a line say, by the walk.
-use Rattle.std.specs.Prelude.{◌≡◌, ℕ, ◌<◌, ◌^◌, Bool, true, List, [], ◌∷◌, ◌++◌, Option, Some, None, IsTrue, decimal}
+use Rattle.std.specs.Prelude.{◌≡◌, ℕ, true, List, [], ◌∷◌, ◌++◌, Option, Some, None}
 use Rattle.law_text.specs.Pieces.{pieces, piece_of, piece_text}
 use Rattle.law_text.specs.Pieces.Piece.{word}
 use Rattle.law_text.specs.declared.token.Token.{Token}
@@ -7,7 +7,6 @@ use Rattle.law_read.specs.declared.error.ReadKind.{ReadKind}
 use Rattle.law_read.specs.declared.error.Stop.{Stop}
 use Rattle.law_read.specs.declared.error.Stop.TheVariants as s
 use Rattle.law_read.specs.declared.want.Want.{Want}
-use Rattle.law_read.specs.declared.want.Want.TheVariants as w
 use Rattle.law_read.specs.declared.want.Bounds.TheVariants.{Kept}
 use Rattle.law_read.specs.Walk.{walk, takes, takes_word, may_end}
 

@@ -1,11 +1,11 @@
 -- Which written terms the grammar spells.
-use Rattle.std.specs.Prelude.{◌≡◌, ℕ, ◌+◌, ◌<◌, ◌≤◌, ◌^◌, Bool, true, false, ◌&&◌, ◌||◌, nat_lt, nat_le, List, [], ◌∷◌, length, sum, Option, Some, None, IsTrue}
-use Rattle.std.specs.List.{list_all, fold}
+use Rattle.std.specs.Prelude.{ℕ, ◌+◌, ◌^◌, Bool, true, false, ◌&&◌, nat_lt, nat_le, List, [], ◌∷◌, length, sum, IsTrue}
+use Rattle.std.specs.List.{list_all}
 use Rattle.law_text.specs.Words.{is_word_of_letters}
 use Rattle.law_read.specs.declared.want.Bounds.{Bounds}
 use Rattle.law_read.specs.declared.want.Bounds.TheVariants.{Kept, Free}
 use Rattle.law_read.specs.declared.want.Place.{Place}
-use Rattle.law_read.specs.declared.want.Place.TheVariants.{Equation, Body, Value}
+use Rattle.law_read.specs.declared.want.Place.TheVariants.{Equation, Body}
 use Rattle.law_read.specs.declared.raw.RawHead.{RawHead}
 use Rattle.law_read.specs.declared.raw.RawHead.TheVariants.{Name, Var, Param, Field}
 use Rattle.law_read.specs.declared.raw.RawTerm.{RawTerm}

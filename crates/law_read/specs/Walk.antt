@@ -1,7 +1,7 @@
 -- A line read from left to right, piece by piece. What is still wanted is a list; a piece is taken or
 -- not, and changes what is wanted. Readings are proved by this walk: what a line must be is said by its
 -- spelling, and what a fault is by `Faults`.
-use Rattle.std.specs.Prelude.{◌≡◌, ℕ, zero, suc, ◌+◌, ◌<◌, ◌^◌, Bool, true, false, ◌&&◌, ◌||◌, not, nat_lt, nat_le, ◌==◌, List, [], ◌∷◌, ◌++◌, length, Option, Some, None, codes, is_some}
+use Rattle.std.specs.Prelude.{ℕ, ◌+◌, ◌^◌, Bool, true, false, ◌&&◌, ◌||◌, not, nat_lt, ◌==◌, List, [], ◌∷◌, ◌++◌, Option, Some, None, codes, is_some}
 use Rattle.std.specs.Str.{bytes_eq}
 use Rattle.law_text.specs.Words.{is_word_of_letters, number_below}
 use Rattle.law_text.specs.Pieces.{Piece}

@@ -1,6 +1,7 @@
-ghost use Rattle.law_read.specs.Laws.{SpelledIsWalked};
+ghost use Rattle.law_read.specs.Laws.{SpelledIsRead, SpelledIsWalked};
 
-/// Each line that may come at a stage and that the grammar spells is read to its end.
+/// Each line that may come at a stage and that the grammar spells is read to its end, and has no fault.
 pub fn spelled_lines_are_read()
-    ensures { SpelledIsWalked }
+    ensures walked { SpelledIsWalked }
+    ensures read { SpelledIsRead }
 {}

@@ -1,4 +1,3 @@
-use Rattle.std.proofs.Common.{rules}
 use Rattle.law_read.proofs.LineSteps.{line_read, line_stops}
 use Rattle.law_read.proofs.line.read_line.Goals as goal
 

@@ -1,4 +1,4 @@
-use Rattle.std.proofs.Common.{rules, arith, ◌≡◌, ◌+◌, ◌++◌, ◌∷◌, [], length, sym, subst, true}
+use Rattle.std.proofs.Common.{rules, ◌≡◌, length, sym, subst, true}
 use Rattle.law_read.specs.Walk.{is_atom}
 use Rattle.law_read.specs.declared.want.Bounds.TheVariants.{Kept}
 use Rattle.law_read.proofs.RowSteps.{mark_read, word_is_atom}

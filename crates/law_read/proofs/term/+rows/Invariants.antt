@@ -1,4 +1,4 @@
-use Rattle.std.proofs.Common.{◌≡◌, ◌≤◌, ◌*◌, ◌+◌, length}
+use Rattle.std.proofs.Common.{◌≤◌, ◌*◌, ◌+◌, length}
 use Rattle.law_read.specs.Rows.{RowSoFar}
 use Rattle.law_read.proofs.term.+rows.Given as goal
 

@@ -1,6 +1,5 @@
-use Rattle.std.proofs.Common.{rules, subst}
-use Rattle.law_text.specs.declared.token.Token.TheVariants as t
-use Rattle.law_read.proofs.RowSteps.{row_closed, row_at_end, item_word, item_opened, mark_read}
+use Rattle.std.proofs.Common.{rules}
+use Rattle.law_read.proofs.RowSteps.{row_closed, row_at_end}
 use Rattle.law_read.proofs.term.more.Goals as goal
 
 pub returns-in-None : goal.returns-in-None

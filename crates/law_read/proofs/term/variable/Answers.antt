@@ -1,4 +1,3 @@
-use Rattle.std.proofs.Common.{rules, arith}
 use Rattle.law_read.proofs.Cuts.{variable_read}
 use Rattle.law_read.proofs.term.variable.Goals as goal
 
