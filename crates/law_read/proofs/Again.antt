@@ -36,7 +36,7 @@ unfoldable pub is_solid : List ℕ → Bool
 is_solid [] = false
 is_solid (b ∷ bs) = list_all is_plain (b ∷ bs)
 
-solid_first : (bytes bs : List ℕ) → is_solid bytes ≡ true → begins_apart bs ≡ true → pieces (bytes ++ bs) ≡ word bytes ∷ pieces bs
+pub solid_first : (bytes bs : List ℕ) → is_solid bytes ≡ true → begins_apart bs ≡ true → pieces (bytes ++ bs) ≡ word bytes ∷ pieces bs
 unfolding is_solid
 solid_first [] bs h a = absurd cc
 solid_first (b ∷ bytes) bs h a = word_first b bytes bs h a

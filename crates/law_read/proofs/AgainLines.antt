@@ -34,7 +34,7 @@ use Rattle.law_read.proofs.Again.{apart_none, apart_space, gap_on, is_solid, nam
 use Rattle.law_read.proofs.AgainTerms.{names_on}
 use Rattle.law_read.proofs.AgainRoots.{gap_mark_on, mark_on, root_on, values_on}
 
-apart_words : (words : List (List ℕ)) → begins_apart (spaced words) ≡ true
+pub apart_words : (words : List (List ℕ)) → begins_apart (spaced words) ≡ true
 apart_words [] = apart_none
 apart_words (x ∷ words) = apart_space (x ++ spaced words)
 
@@ -88,7 +88,7 @@ sides_on left right h g =
     ∙ root_end p.Equation right g
 
 -- keys
-key_again : (k : Key) → key_of (key_text k) ≡ Some k
+pub key_again : (k : Key) → key_of (key_text k) ≡ Some k
 key_again key.Signature = refl
 key_again key.Vars = refl
 key_again key.Size = refl
@@ -108,7 +108,7 @@ key_again key.Pool = refl
 key_again key.Values = refl
 key_again key.End = refl
 
-key_solid : (k : Key) → is_solid (key_text k) ≡ true
+pub key_solid : (k : Key) → is_solid (key_text k) ≡ true
 unfolding is_solid
 key_solid key.Signature = refl
 key_solid key.Vars = refl

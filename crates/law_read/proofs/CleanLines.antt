@@ -43,7 +43,7 @@ clean_append : (xs ys : List (List ℕ)) → AllByRecursion IsClean xs → AllBy
 clean_append [] ys h g = g
 clean_append (x ∷ xs) ys h g = (h.0, clean_append xs ys h.1 g)
 
-clean_words : (line : RawLine) → IsLine Kept line → AllByRecursion IsClean (line_words line)
+pub clean_words : (line : RawLine) → IsLine Kept line → AllByRecursion IsClean (line_words line)
 clean_words l.Head h = (clean_text (codes "signature") refl refl, (clean_text (codes "1") refl refl, tt))
 clean_words l.Head2 h = (clean_text (codes "signature") refl refl, (clean_text (codes "2") refl refl, tt))
 clean_words l.Head3 h = (clean_text (codes "signature") refl refl, (clean_text (codes "3") refl refl, tt))
@@ -77,7 +77,7 @@ spaced_of : (bytes : List ℕ) → spaces_fit true bytes ≡ true → is_spaced 
 spaced_of [] h = refl
 spaced_of (b ∷ bytes) h = h
 
-clean_joined : (words : List (List ℕ)) → AllByRecursion IsClean words → (list_all is_printed (joined words) ≡ true) × (is_spaced (joined words) ≡ true)
+pub clean_joined : (words : List (List ℕ)) → AllByRecursion IsClean words → (list_all is_printed (joined words) ≡ true) × (is_spaced (joined words) ≡ true)
 clean_joined [] h = (refl, refl)
 clean_joined (x ∷ words) h = let s = clean_spaced words h.1 in (
   printed_append x (spaced words) h.0.printed s.0,

@@ -14,3 +14,4 @@ pub mod LineSteps
 pub mod Grown
 pub mod Spaced
 pub mod Walks
+pub mod Whole
