@@ -1,3 +1,8 @@
+pub mod Names
+pub mod Table
+pub mod Declarations
+pub mod TermFaults
+pub mod LineFaults
 pub mod Naming
 pub mod Typed
 pub mod Profile

@@ -1,8 +1,15 @@
 //! The names of a text to the numbers of a signature, and back.
 #![tactic(auto)]
 
+mod errors;
+mod scope;
+mod seen;
+mod terms;
+mod whole;
 mod naming;
+mod names;
 mod pools;
 
+pub use errors::{TypeErr, TypeKind};
 pub use naming::{name_of_sort, name_of_symbol, raw_term};
 pub use pools::pool_lines;

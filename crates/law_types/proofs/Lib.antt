@@ -1,0 +1,2 @@
+mod NameTable
+pub mod TermFacts
