@@ -1,1 +1,3 @@
 pub mod TopFacts
+pub mod Pigeons
+pub mod SmallPlain

@@ -38,8 +38,11 @@ abbrev pub law_spellings : SigParts → ℕ → List Equation → List (List ℕ
 law_spellings parts number [] = []
 law_spellings parts number (e ∷ es) = law_spelling parts number e ∷ law_spellings parts (suc number) es
 
--- the law list: its head, the signature, the pools, the laws numbered after the background, and the end
+-- the laws, each on a line, numbered after the background
+abbrev pub laws_text : SigParts → List Equation → List ℕ
+laws_text parts laws = text_of (law_spellings parts (length parts.settings.background + 1) laws)
+
+-- the law list: its head, the signature, the pools, the laws, and the end
 abbrev pub list_spelling : List RawLine → SigParts → List (List (List Tree)) → List Equation → List ℕ
 list_spelling lines parts pools laws =
-    text_of (codes "lawlist 1" ∷ []) ++ (sig_spelling lines ++ (sig_spelling (pools_lines parts pools)
-    ++ text_of (law_spellings parts (length parts.settings.background + 1) laws ++ codes "end" ∷ [])))
+    text_of (codes "lawlist 1" ∷ []) ++ (sig_spelling lines ++ (sig_spelling (pools_lines parts pools) ++ (laws_text parts laws ++ text_of (codes "end" ∷ []))))

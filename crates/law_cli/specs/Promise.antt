@@ -18,17 +18,21 @@ use Rattle.law_cli.specs.declared.status.Status.TheVariants as status
 abbrev pub ArePlainWords : List (List ℕ) → Type 0
 ArePlainWords words = words ≡ codes "plain" ∷ []
 
--- the text is the law list of the signature that the bytes spell, over its given pools, and the laws cover it
-pub record IsLawListOf (bytes text : List ℕ) : Type 0 where
-  pub lines : List RawLine
-  pub parts : SigParts
-  pub small : IsSmallText bytes lines parts
+-- the text is the law list of the signature that these lines state, over its given pools, and the laws cover it
+pub record IsListedText (lines : List RawLine) (parts : SigParts) (text : List ℕ) : Type 0 where
   pub pools : List (List (List Tree))
   pub given : parts.settings.pools ≡ rule.Given pools
   pub laws : List Equation
   pub listed : IsLawList parts pools laws
   pub covered : IsCovered parts pools laws
   pub printed : text ≡ list_spelling lines parts pools laws
+
+-- the text is the law list of the signature that the bytes spell
+pub record IsLawListOf (bytes text : List ℕ) : Type 0 where
+  pub lines : List RawLine
+  pub parts : SigParts
+  pub small : IsSmallText bytes lines parts
+  pub listed : IsListedText lines parts text
 
 -- the same, as far as the source tells its bytes
 abbrev pub AnswersList : Option (List ℕ) → List ℕ → Type 0

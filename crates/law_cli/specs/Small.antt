@@ -6,7 +6,7 @@ use Rattle.law_read.specs.declared.raw.RawLine.TheVariants as line
 use Rattle.law_read.specs.Spelling.{sig_spelling}
 use Rattle.law_read.specs.Signature.{IsRawSig}
 use Rattle.law_types.specs.Typed.{IsTypedAs}
-use Rattle.law_types.specs.Profile.{IsFirstProfile}
+use Rattle.law_explore.specs.Profile.{IsFirstProfile}
 
 -- the bytes spell these lines, which state this signature: a text of the first version, of at most 65,536 bytes, whose
 -- signature is in the first profile

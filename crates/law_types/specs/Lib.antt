@@ -5,4 +5,3 @@ pub mod TermFaults
 pub mod LineFaults
 pub mod Naming
 pub mod Typed
-pub mod Profile

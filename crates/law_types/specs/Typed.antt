@@ -1,5 +1,5 @@
 -- When the lines of a text state a signature.
-use Rattle.std.specs.Prelude.{◌≡◌, ℕ, suc, ◌+◌, List, [], ◌∷◌, ◌++◌, length, map, Option, Some, None, slice_get, option_map, unwrap_or}
+use Rattle.std.specs.Prelude.{◌≡◌, ℕ, suc, ◌≤◌, List, [], ◌∷◌, ◌++◌, length, map, Option, Some, None, slice_get, option_map, unwrap_or}
 use Rattle.law_sig.specs.Lists.{In, Each}
 use Rattle.law_sig.specs.Trees.{joined}
 use Rattle.law_sig.specs.Signature.{symbol_at, args_of, constructors, vars_at, width_at, weight_at}
@@ -124,6 +124,10 @@ abbrev pub values_lines : SigParts → ℕ → List (List Tree) → List RawLine
 values_lines parts sort [] = []
 values_lines parts sort (values ∷ others) =
     line.Values (sort_name parts (record { 0 = sort })) (map (named_term parts) values) ∷ values_lines parts (suc sort) others
+
+-- a pool with values for at most 64 sorts, as every pool of a signature has
+abbrev pub HasFewSorts : List (List Tree) → Type 0
+HasFewSorts pool = length pool ≤ 64
 
 abbrev pub pools_lines : SigParts → List (List (List Tree)) → List RawLine
 pools_lines parts [] = []

@@ -1,6 +1,7 @@
-ghost use Rattle.std.specs.Prelude.{◌≡◌, ◌++◌, ◌<◌, ◌^◌, length, map, IfOk, OnOk};
+ghost use Rattle.std.specs.Prelude.{◌≡◌, ◌++◌, map, IfOk, OnOk};
 ghost use Rattle.law_types.specs.Naming.{named_term};
-ghost use Rattle.law_types.specs.Typed.{values_lines, pools_lines};
+ghost use Rattle.law_types.specs.Typed.{values_lines, pools_lines, HasFewSorts};
+ghost use Rattle.law_sig.specs.Lists.{Each};
 
 use crate::naming::{name_of_sort, raw_term};
 use law_read::{RawLine, RawTerm};
@@ -13,6 +14,7 @@ pub fn pool_lines(
     sig: &Sig,
     pools: &[Seq<Seq<Tree>>],
 ) -> Result<Seq<RawLine>, NoMemory>
+    requires { Each HasFewSorts pools.now }
     ensures { IfOk result (λ lines. lines ≡ pools_lines sig.now pools.now) }
 {
     let mut lines = Seq::new(alloc);
@@ -30,14 +32,13 @@ fn push_values(
     pool: &[Seq<Tree>],
     lines: &mut Seq<RawLine>,
 ) -> Result<(), NoMemory>
+    requires { HasFewSorts pool.now }
     ensures { OnOk result (lines.new ≡ lines.old ++ values_lines sig.now 0 pool.now) }
 {
-    let mut sort = 0u32;
-    for values in pool {
-        let name = name_of_sort(alloc, sig, SortId(sort))?;
+    for (at, values) in pool.iter().enumerate() {
+        let sort = name_of_sort(alloc, sig, SortId(at as u32))?;
         let values = raw_terms(alloc, sig, values.as_slice())?;
-        lines.push(RawLine::Values { sort: name, values })?;
-        sort = sort.saturating_add(1);
+        lines.push(RawLine::Values { sort, values })?;
     }
     Ok(())
 }

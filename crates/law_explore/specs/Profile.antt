@@ -1,6 +1,7 @@
 -- The signatures that `plain` takes so far: one sort of constants, and functions without calls.
 use Rattle.std.specs.Prelude.{◌≡◌, ℕ, ◌≤◌, List, [], ◌∷◌, length}
 use Rattle.law_sig.specs.Lists.{Each}
+use Rattle.law_sig.specs.Tests.{Pools}
 use Rattle.law_sig.specs.declared.tree.Tree.{Tree}
 use Rattle.law_sig.specs.declared.tree.Body.{Body}
 use Rattle.law_sig.specs.declared.tree.Body.TheOpen.{Body-F}
@@ -8,6 +9,7 @@ use Rattle.law_sig.specs.declared.tree.Body.TheOpen as b
 use Rattle.law_sig.specs.declared.tree.Body.TheViews.{out-Body}
 use Rattle.law_sig.specs.declared.parts.Sym.{Sym}
 use Rattle.law_sig.specs.declared.parts.Sym.TheVariants as sym
+use Rattle.law_sig.specs.declared.parts.PoolRule.{PoolRule}
 use Rattle.law_sig.specs.declared.parts.PoolRule.TheVariants as rule
 use Rattle.law_sig.specs.declared.parts.SigParts.{SigParts}
 
@@ -38,3 +40,8 @@ pub record IsFirstProfile (parts : SigParts) : Type 0 where
   pub no_background : parts.settings.background ≡ []
   pub pool : List (List Tree)
   pub one_pool : parts.settings.pools ≡ rule.Given (pool ∷ [])
+
+-- the pools that are listed, and none where they are generated
+abbrev pub given_pools : PoolRule → Pools
+given_pools (rule.Given pools) = pools
+given_pools (rule.Seeded seed height count) = []

@@ -1,0 +1,9 @@
+use Rattle.std.proofs.Common.{◌≡◌, ◌++◌, length}
+use Rattle.law_sig.specs.declared.tree.SymId.{SymId}
+use Rattle.law_explore.specs.Rows.{each_below}
+use Rattle.law_explore.specs.Listing.{applications}
+use Rattle.law_explore.proofs.schemas.level.Given as goal
+
+abbrev pub invariant-loop-number : goal.invariant-loop-number
+invariant-loop-number l =
+    l.found ≡ l.initial.found ++ each_below l.number (λ i. applications l.sig l.levels (length l.levels) (record { 0 = i }))
