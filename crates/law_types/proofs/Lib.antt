@@ -1,2 +1,3 @@
 mod NameTable
+mod HeightFacts
 pub mod TermFacts

@@ -1,4 +1,5 @@
 pub mod Names
+pub mod Heights
 pub mod Table
 pub mod Declarations
 pub mod TermFaults

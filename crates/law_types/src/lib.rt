@@ -2,6 +2,8 @@
 #![tactic(auto)]
 
 mod errors;
+mod heights;
+mod lines;
 mod scope;
 mod seen;
 mod terms;
