@@ -1,3 +1,4 @@
 mod NameTable
 mod HeightFacts
+mod RowFacts
 pub mod TermFacts

@@ -1,6 +1,6 @@
 -- The first line of a text that shows a fault, and the first fault on it. On each line the faults are looked for in order;
 -- some of them speak of what stands before the line, some of what stands behind it, and some of the whole text.
-use Rattle.std.specs.Prelude.{ℕ, zero, suc, ◌+◌, ◌-◌, ◌^◌, List, [], ◌∷◌, ◌++◌, length, Bool, true, false, not, ◌&&◌, ◌||◌, ◌==◌, nat_lt, nat_le, if◌then◌else◌, is_some, ◌≡◌, Result, Ok, Err, Option, Some, None, slice_get, slice_index_or, option_map}
+use Rattle.std.specs.Prelude.{ℕ, zero, suc, ◌+◌, ◌-◌, ◌^◌, List, [], ◌∷◌, ◌++◌, length, Bool, true, false, not, ◌&&◌, ◌||◌, ◌==◌, nat_lt, nat_le, if◌then◌else◌, is_some, ◌≡◌, Result, Ok, Err, Option, Some, None, slice_get}
 use Rattle.std.specs.List.{list_all, list_any}
 use Rattle.std.specs.Option.{option_or}
 use Rattle.law_sig.specs.Trees.{same_sort}
@@ -17,7 +17,7 @@ use Rattle.law_read.specs.declared.raw.RawLine.{RawLine}
 use Rattle.law_read.specs.declared.raw.RawLine.TheVariants as line
 use Rattle.law_types.specs.Names.{number_of, stands_before}
 use Rattle.law_types.specs.Declarations.{sort_id, whole, is_low, has_value}
-use Rattle.law_types.specs.TermFaults.{fault_if, first_of, mismatch, symbol_of, head_symbol, wanted_of, term_fault}
+use Rattle.law_types.specs.TermFaults.{fault_if, first_of, mismatch, symbol_of, wanted_of, term_fault}
 use Rattle.law_types.specs.declared.errors.TypeErr.{TypeErr}
 use Rattle.law_types.specs.declared.errors.TypeErr.TheVariants as err
 use Rattle.law_types.specs.declared.errors.TypeKind.{TypeKind}
@@ -74,7 +74,7 @@ out_of low high n = fault_if (not (nat_le low n && nat_le n high)) kind.SettingR
 abbrev pub is_too_low : Whole → ℕ → SortId → Bool
 is_too_low text height sort = has_value text sort && not (is_low text height sort)
 
-unfoldable pub some_too_low : Whole → ℕ → ℕ → ℕ → Bool
+abbrev pub some_too_low : Whole → ℕ → ℕ → ℕ → Bool
 some_too_low text height sort zero = false
 some_too_low text height sort (suc count) = is_too_low text height (record { 0 = sort }) || some_too_low text height (sort + 1) count
 
@@ -145,8 +145,12 @@ abbrev pub case_names : List RawLine → List (List ℕ)
 case_names (line.CaseLine con body ∷ lines) = con ∷ case_names lines
 case_names lines = []
 
+abbrev pub is_case : List (List ℕ) → Option (List ℕ) → Bool
+is_case cases None = false
+is_case cases (Some name) = is_some (number_of cases name)
+
 abbrev pub has_case : Whole → List (List ℕ) → SymId → Bool
-has_case text cases con = is_some (number_of cases (slice_index_or text.names con.0 []))
+has_case text cases con = is_case cases (slice_get text.names con.0)
 
 -- the constructors of the sort at the match place all have a case among those that come next
 abbrev pub match_faults : Whole → List (List ℕ) → Option SortId → Option TypeKind
@@ -184,14 +188,18 @@ case_faults text seen con body (Some number) = symbol_case_faults text seen con 
 
 -- Explored names, background and pools
 
--- these names, behind those that were explored before
-abbrev pub explored_faults : Whole → List (List ℕ) → List (List ℕ) → Option TypeKind
-explored_faults text before [] = None
-explored_faults text before (name ∷ names) = first_of (
+-- a name, behind those that were explored before
+abbrev pub explored_fault : Whole → List (List ℕ) → List ℕ → Option TypeKind
+explored_fault text before name = first_of (
     fault_if (not (is_some (number_of text.names name))) kind.UnknownName
     ∷ fault_if (is_some (number_of before name)) kind.NameTwice
-    ∷ explored_faults text (before ++ name ∷ []) names
     ∷ [])
+
+-- these names likewise, from the left
+abbrev pub explored_faults : Whole → List (List ℕ) → List (List ℕ) → Option TypeKind
+explored_faults text before [] = None
+explored_faults text before (name ∷ names) =
+    option_or (explored_fault text before name) (explored_faults text (before ++ name ∷ []) names)
 
 abbrev pub side_scope : Scope
 side_scope = record { standing = standing.Side; owner = 0; place = None; fields = []; params = [] }
@@ -204,8 +212,11 @@ abbrev pub variable_sort : Option ℕ → Option SortId
 variable_sort None = None
 variable_sort (Some sort) = Some (record { 0 = sort })
 
+abbrev pub name_sort : Whole → Option ℕ → Option SortId
+name_sort text number = sort_given (symbol_of text number)
+
 abbrev pub head_sort : Whole → RawHead → Option SortId
-head_sort text (head.Name name) = sort_given (head_symbol text (head.Name name))
+head_sort text (head.Name name) = name_sort text (number_of text.names name)
 head_sort text (head.Var sort index) = variable_sort (number_of text.sorts sort)
 head_sort text (head.Param number) = None
 head_sort text (head.Field number) = None
@@ -239,12 +250,17 @@ abbrev pub each_value_fault : Whole → SortId → List RawTerm → Option TypeK
 each_value_fault text sort [] = None
 each_value_fault text sort (value ∷ values) = option_or (term_fault text value_scope (Some sort) value) (each_value_fault text sort values)
 
+-- whether there are as many values as the width of their sort
+abbrev pub is_width : ℕ → Option ℕ → Bool
+is_width count None = false
+is_width count (Some width) = count == width
+
 -- values of the sort with this number
 abbrev pub values_faults : Whole → Seen → List RawTerm → Option ℕ → Option TypeKind
 values_faults text seen values None = Some kind.UnknownSort
 values_faults text seen values (Some sort) = first_of (
     mismatch (Some (record { 0 = seen.values })) (record { 0 = sort })
-    ∷ fault_if (not (length values == slice_index_or text.widths sort 0)) kind.Arity
+    ∷ fault_if (not (is_width (length values) (slice_get text.widths sort))) kind.Arity
     ∷ each_value_fault text (record { 0 = sort }) values
     ∷ [])
 

@@ -1,11 +1,13 @@
 //! The names of a text to the numbers of a signature, and back.
 #![tactic(auto)]
 
+mod cases;
 mod errors;
 mod heights;
 mod lines;
 mod scope;
 mod seen;
+mod tail;
 mod terms;
 mod whole;
 mod naming;

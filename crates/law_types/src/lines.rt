@@ -1,11 +1,7 @@
-ghost use Rattle.std.specs.Prelude.{◌≡◌, ◌&&◌, ◌||◌, not, map, length, Some, None, is_some, slice_get, slice_index_or, nat_lt, IfOk};
-ghost use Rattle.std.specs.List.{list_all};
-ghost use Rattle.law_sig.specs.Signature.{args_of, result_of, constructors_from};
-ghost use Rattle.law_sig.specs.WellFormed.{is_function};
-ghost use Rattle.law_types.specs.Names.{number_of, stands_before};
-ghost use Rattle.law_types.specs.Declarations.{is_low, has_value};
+ghost use Rattle.std.specs.Prelude.{◌≡◌, length, IfOk};
+ghost use Rattle.law_types.specs.Names.{stands_before};
 ghost use Rattle.law_types.specs.Heights.{AreLow};
-ghost use Rattle.law_types.specs.LineFaults.{out_of, is_too_low, some_too_low, seed_faults, sort_faults, unknown_sort, unknown_sorts, name_faults, con_faults, fun_faults, owner, own_symbol, sort_given, body_scope, body_fault, case_names, has_case, match_faults, wrong_case, matched, symbol_case_faults, case_faults, explored_faults, side_scope, value_scope, head_sort, root_sort, sides_mismatch, background_faults, values_count, pool_faults, each_value_fault, values_faults};
+ghost use Rattle.law_types.specs.LineFaults.{out_of, sort_faults, unknown_sort, unknown_sorts, name_faults, con_faults, fun_faults, owner, own_symbol, sort_given, body_scope, body_fault};
 ghost use Rattle.law_types.specs.TermFaults.{wanted_of};
 
 use crate::errors::TypeKind;
@@ -13,10 +9,10 @@ use crate::heights::has_low;
 use crate::names::Names;
 use crate::scope::{Scope, Standing};
 use crate::seen::Seen;
-use crate::terms::{args_of, fault_if, is_function, mismatch, result_of, sort_at, term_fault};
+use crate::terms::{args_of, fault_if, result_of, term_fault};
 use crate::whole::Whole;
-use law_read::{RawHead, RawLine, RawTerm};
-use law_sig::{NoMemory, Seq, SortId, SymId, Sym, Text};
+use law_read::RawTerm;
+use law_sig::{NoMemory, Seq, SortId, Text};
 use std::alloc::Global;
 
 /// Where a number is outside of a range, both ends included.
@@ -108,14 +104,14 @@ pub(crate) fn fun_fault(
 }
 
 /// The number of the function at work, the symbol that was declared last.
-fn owner(seen: &Seen) -> u32
+pub(crate) fn owner(seen: &Seen) -> u32
     ensures { result ≡ owner seen.now }
 {
     seen.symbols.saturating_sub(1)
 }
 
 /// The sorts of the arguments of the function at work.
-fn own_sorts<'t>(text: &'t Whole, seen: &Seen) -> &'t [SortId]
+pub(crate) fn own_sorts<'t>(text: &'t Whole, seen: &Seen) -> &'t [SortId]
     ensures { result.now ≡ wanted_of (own_symbol text.now seen.now) }
 {
     match text.symbols.get(owner(seen) as usize) {

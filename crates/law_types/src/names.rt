@@ -1,4 +1,5 @@
-ghost use Rattle.std.specs.Prelude.{◌≡◌, [], ◌∷◌, ◌++◌, ◌<◌, ◌^◌, length, None, IfOk, OnOk};
+ghost use Rattle.std.specs.Prelude.{◌≡◌, [], ◌∷◌, ◌++◌, ◌<◌, ◌^◌, length, None, slice_get, IfOk, OnOk};
+ghost use Rattle.std.specs.Option.{option_copied};
 ghost use Rattle.indexmap.specs.IndexMap.{get};
 ghost use Rattle.law_types.specs.Names.{number_of};
 
@@ -43,6 +44,13 @@ impl Names {
         ensures { result ≡ length self.now }
     {
         self.list.len() as u32
+    }
+
+    /// The name at a place.
+    pub(crate) fn get(&self, place: u32) -> Option<&Text>
+        ensures { option_copied result ≡ slice_get self.now place }
+    {
+        self.list.get(place as usize)
     }
 
     /// The first place of a name.
