@@ -1,4 +1,5 @@
 mod NameTable
 mod HeightFacts
 mod RowFacts
+mod TailFacts
 pub mod TermFacts

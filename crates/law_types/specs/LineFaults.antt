@@ -266,23 +266,27 @@ values_faults text seen values (Some sort) = first_of (
 
 -- A line, and the lines behind it
 
+-- a line of settings
+abbrev pub setting_fault : RawLine → Option TypeKind
+setting_fault (line.Vars n) = out_of 0 8 n
+setting_fault (line.Size n) = out_of 1 32 n
+setting_fault (line.Width n) = out_of 1 16 n
+setting_fault (line.Budget n) = out_of 1 1000000 n
+setting_fault (line.Pairs n) = out_of 0 4096 n
+setting_fault other = None
+
+-- a line that declares a sort or a symbol
+abbrev pub declared_fault : Whole → Seen → RawLine → Option TypeKind
+declared_fault text seen (line.SortLine name) = sort_faults text seen name
+declared_fault text seen (line.SortLine2 name vars width) = first_of (sort_faults text seen name ∷ out_of 0 8 vars ∷ out_of 1 16 width ∷ [])
+declared_fault text seen (line.ConLine name args) = con_faults text seen name args
+declared_fault text seen (line.ConLine3 weight name args) = first_of (con_faults text seen name args ∷ out_of 1 4 weight ∷ [])
+declared_fault text seen (line.FunLine name args result) = fun_faults text seen name args result
+declared_fault text seen (line.FunLine3 weight name args result) = first_of (fun_faults text seen name args result ∷ out_of 1 4 weight ∷ [])
+declared_fault text seen other = None
+
 abbrev pub line_fault : Whole → Seen → List RawLine → RawLine → Option TypeKind
-line_fault text seen rest line.Head = None
-line_fault text seen rest line.Head2 = None
-line_fault text seen rest line.Head3 = None
-line_fault text seen rest (line.Vars n) = out_of 0 8 n
-line_fault text seen rest (line.Size n) = out_of 1 32 n
-line_fault text seen rest (line.Width n) = out_of 1 16 n
-line_fault text seen rest (line.Budget n) = out_of 1 1000000 n
-line_fault text seen rest (line.Pairs n) = out_of 0 4096 n
-line_fault text seen rest line.PoolsGiven = None
 line_fault text seen rest (line.PoolsSeed seed height count) = seed_faults text height count
-line_fault text seen rest (line.SortLine name) = sort_faults text seen name
-line_fault text seen rest (line.SortLine2 name vars width) = first_of (sort_faults text seen name ∷ out_of 0 8 vars ∷ out_of 1 16 width ∷ [])
-line_fault text seen rest (line.ConLine name args) = con_faults text seen name args
-line_fault text seen rest (line.ConLine3 weight name args) = first_of (con_faults text seen name args ∷ out_of 1 4 weight ∷ [])
-line_fault text seen rest (line.FunLine name args result) = fun_faults text seen name args result
-line_fault text seen rest (line.FunLine3 weight name args result) = first_of (fun_faults text seen name args result ∷ out_of 1 4 weight ∷ [])
 line_fault text seen rest (line.MatchLine place) = match_faults text (case_names rest) (slice_get (wanted_of (own_symbol text seen)) place)
 line_fault text seen rest (line.BodyLine body) = body_fault text seen [] body
 line_fault text seen rest (line.CaseLine con body) = case_faults text seen con body (number_of text.names con)
@@ -290,7 +294,7 @@ line_fault text seen rest (line.Explore names) = explored_faults text [] names
 line_fault text seen rest (line.Background left right) = background_faults text left right
 line_fault text seen rest line.Pool = pool_faults text seen rest
 line_fault text seen rest (line.Values sort values) = values_faults text seen values (number_of text.sorts sort)
-line_fault text seen rest line.End = None
+line_fault text seen rest other = first_of (setting_fault other ∷ declared_fault text seen other ∷ [])
 
 -- The first line that shows a fault
 

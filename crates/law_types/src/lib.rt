@@ -2,6 +2,7 @@
 #![tactic(auto)]
 
 mod cases;
+mod check;
 mod errors;
 mod heights;
 mod lines;
@@ -14,6 +15,7 @@ mod naming;
 mod names;
 mod pools;
 
+pub use check::check_lines;
 pub use errors::{TypeErr, TypeKind};
 pub use naming::{name_of_sort, name_of_symbol, raw_term};
 pub use pools::pool_lines;

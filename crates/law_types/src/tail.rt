@@ -1,7 +1,7 @@
 ghost use Rattle.std.specs.Prelude.{◌≡◌, length, [], None, Some, slice_get, IfOk};
 ghost use Rattle.law_types.specs.Names.{number_of};
 ghost use Rattle.law_types.specs.Heights.{AreLow};
-ghost use Rattle.law_types.specs.LineFaults.{some_too_low, seed_faults, explored_fault, explored_faults, side_scope, value_scope, name_sort, root_sort, sides_mismatch, background_faults, values_count, pool_faults, is_width, each_value_fault, values_faults};
+ghost use Rattle.law_types.specs.LineFaults.{is_too_low, some_too_low, seed_faults, explored_fault, explored_faults, side_scope, value_scope, name_sort, root_sort, sides_mismatch, background_faults, values_count, pool_faults, is_width, each_value_fault, values_faults};
 
 use crate::errors::TypeKind;
 use crate::heights::{has_low, lows_at};
@@ -15,17 +15,26 @@ use law_read::{RawHead, RawLine, RawTerm};
 use law_sig::{NoMemory, Seq, SortId, Text};
 use std::alloc::Global;
 
-/// Whether a height is below the least height of some sort that has a value.
+/// Whether a height is below the least height of a sort that has a value.
+fn is_too_low(text: &Whole, has: &[bool], height: u32, lows: &[bool], sort: SortId) -> bool
+    requires has { AreLow text.now (length text.now.sorts) has.now }
+    requires lows { AreLow text.now height lows.now }
+    ensures { result ≡ is_too_low text.now height sort }
+{
+    let valued = has_low(text, text.sorts.len(), has, sort);
+    let low = has_low(text, height, lows, sort);
+    valued && !low
+}
+
+/// Whether that is so of some sort.
+#[tactic(auto, using(crate::proofs::TailFacts::high_enough))]
 fn some_too_low(text: &Whole, has: &[bool], height: u32, lows: &[bool]) -> bool
     requires has { AreLow text.now (length text.now.sorts) has.now }
     requires lows { AreLow text.now height lows.now }
     ensures { result ≡ some_too_low text.now height 0 (length text.now.sorts) }
 {
     for at in 0..text.sorts.len() {
-        let sort = SortId(at);
-        let valued = has_low(text, text.sorts.len(), has, sort);
-        let low = has_low(text, height, lows, sort);
-        if valued && !low {
+        if is_too_low(text, has, height, lows, SortId(at)) {
             return true;
         }
     }
