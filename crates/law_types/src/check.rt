@@ -1,8 +1,8 @@
-ghost use Rattle.std.specs.Prelude.{◌≡◌, length, IfOk};
+ghost use Rattle.std.specs.Prelude.{◌≡◌, ◌+◌, ◌<◌, drop, length, IfOk};
 ghost use Rattle.law_types.specs.Heights.{AreLow};
 ghost use Rattle.law_types.specs.Rows.{AreRows};
 ghost use Rattle.law_types.specs.Declarations.{whole};
-ghost use Rattle.law_types.specs.LineFaults.{setting_fault, declared_fault, line_fault, faults_from, first_fault, TellsFault};
+ghost use Rattle.law_types.specs.LineFaults.{setting_fault, declared_fault, line_fault, nothing_seen, faults_from, first_fault, TellsFault};
 
 use crate::cases::{case_fault, match_fault, rows};
 use crate::errors::{TypeErr, TypeKind};
@@ -94,6 +94,39 @@ fn line_fault(
     }
 }
 
+/// The lines behind this one.
+fn lines_behind(lines: &[RawLine], at: usize) -> &[RawLine]
+    requires { at < length lines.now }
+    ensures { result.now ≡ drop (at + 1) lines.now }
+{
+    &lines[at + 1..]
+}
+
+/// Goes through the lines of a text.
+fn walk(
+    alloc: Global,
+    text: &Whole,
+    has: &[bool],
+    rows: &[Seq<SymId>],
+    lines: &[RawLine],
+) -> Result<(), TypeErr>
+    requires has { AreLow text.now (length text.now.sorts) has.now }
+    requires rows { AreRows text.now rows.now }
+    ensures { TellsFault result (faults_from text.now nothing_seen 1 lines.now) }
+{
+    let mut seen = Seen::new(alloc);
+    for (at, line) in lines.iter().enumerate() {
+        let rest = lines_behind(lines, at);
+        let fault = line_fault(alloc, text, has, rows, &seen, rest, line)?;
+        if let Some(kind) = fault {
+            let line = at as u64 + 1;
+            return Err(TypeErr::At { line, kind });
+        }
+        seen = seen.after(alloc, line)?;
+    }
+    Ok(())
+}
+
 /// Whether no line of a text shows a fault; else the first that does, with its first fault.
 pub fn check_lines(alloc: Global, lines: &[RawLine]) -> Result<(), TypeErr>
     ensures { TellsFault result (first_fault lines.now) }
@@ -101,25 +134,5 @@ pub fn check_lines(alloc: Global, lines: &[RawLine]) -> Result<(), TypeErr>
     let text = read_whole(alloc, lines)?;
     let has = lows_at(alloc, &text, text.sorts.len())?;
     let rows = rows(alloc, &text)?;
-    let mut seen = Seen::new(alloc);
-    for (at, line) in lines.iter().enumerate() {
-        let rest = &lines[at + 1..];
-        let fault = line_fault(
-            alloc,
-            &text,
-            has.as_slice(),
-            rows.as_slice(),
-            &seen,
-            rest,
-            line,
-        )?;
-        if let Some(kind) = fault {
-            return Err(TypeErr::At {
-                line: at as u64 + 1,
-                kind,
-            });
-        }
-        seen = seen.after(alloc, line)?;
-    }
-    Ok(())
+    walk(alloc, &text, has.as_slice(), rows.as_slice(), lines)
 }
