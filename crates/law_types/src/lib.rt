@@ -10,6 +10,8 @@ mod scope;
 mod seen;
 mod tail;
 mod terms;
+#[cfg(test)]
+mod tests;
 mod whole;
 mod naming;
 mod names;
