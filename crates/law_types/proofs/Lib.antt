@@ -1,4 +1,6 @@
 mod NameTable
+mod NumberFacts
+mod TreeOfFacts
 mod HeightFacts
 mod RowFacts
 mod TailFacts

@@ -1,4 +1,5 @@
 pub mod Names
+pub mod TypedTerm
 pub mod Rows
 pub mod Heights
 pub mod Table

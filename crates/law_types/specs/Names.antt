@@ -17,3 +17,8 @@ is_below place (Some number) = nat_lt number place
 -- whether a name stands among these before a place
 abbrev pub stands_before : List (List ℕ) → ℕ → List ℕ → Bool
 stands_before names place name = is_below place (number_of names name)
+
+-- whether there is a name, and it is this one
+abbrev pub is_named : List ℕ → Option (List ℕ) → Bool
+is_named name None = false
+is_named name (Some other) = same_name name other

@@ -12,6 +12,7 @@ mod tail;
 mod terms;
 #[cfg(test)]
 mod tests;
+mod typing;
 mod whole;
 mod naming;
 mod names;
@@ -20,4 +21,5 @@ mod pools;
 pub use check::check_lines;
 pub use errors::{TypeErr, TypeKind};
 pub use naming::{name_of_sort, name_of_symbol, raw_term};
+pub use typing::typed;
 pub use pools::pool_lines;
