@@ -13,7 +13,7 @@ use crate::seen::Seen;
 use crate::terms::{args_of, fault_if, is_function, result_of, sort_at};
 use crate::whole::Whole;
 use law_read::{RawLine, RawTerm};
-use law_sig::{NoMemory, Seq, SortId, SymId, Sym, Text};
+use law_sig::{NoMemory, Seq, SortId, Sym, SymId, Text};
 use std::alloc::Global;
 
 /// Whether a symbol is a constructor of this sort.

@@ -78,12 +78,7 @@ fn name_fault(text: &Whole, seen: &Seen, name: &Text) -> Option<TypeKind>
 }
 
 /// The first fault of the line of a constructor, but for its weight.
-pub(crate) fn con_fault(
-    text: &Whole,
-    seen: &Seen,
-    name: &Text,
-    args: &[Text],
-) -> Option<TypeKind>
+pub(crate) fn con_fault(text: &Whole, seen: &Seen, name: &Text, args: &[Text]) -> Option<TypeKind>
     ensures { result ≡ con_faults text.now seen.now name.now args.now }
 {
     name_fault(text, seen, name).or(unknown_sorts(text, args))

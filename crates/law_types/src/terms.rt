@@ -212,10 +212,18 @@ fn node_fault(
             variable_fault(text, scope, *index, args.len(), wanted, sort)
         }
         RawHead::Param(number) => {
-            atom_fault(args.len(), wanted, sort_at(scope.params.as_slice(), *number as u64))
+            atom_fault(
+                args.len(),
+                wanted,
+                sort_at(scope.params.as_slice(), *number as u64),
+            )
         }
         RawHead::Field(number) => {
-            atom_fault(args.len(), wanted, sort_at(scope.fields.as_slice(), *number as u64))
+            atom_fault(
+                args.len(),
+                wanted,
+                sort_at(scope.fields.as_slice(), *number as u64),
+            )
         }
     }
 }

@@ -179,7 +179,10 @@ fn one_line_is_wrong(rt: HostRuntime) -> Result<(), Fail> {
     assert_eq!(rt; with(alloc, 14, line)?, at(14, TypeKind::Arity));
     let line = con(alloc, "Z", &["Nat"])?;
     assert_eq!(rt; with(alloc, 9, line)?, at(8, TypeKind::EmptySort));
-    assert_eq!(rt; with(alloc, 4, RawLine::Width(0))?, at(4, TypeKind::SettingRange));
+    assert_eq!(rt;
+        with(alloc, 4, RawLine::Width(0))?,
+        at(4, TypeKind::SettingRange)
+    );
     Ok(())
 }
 
@@ -240,11 +243,26 @@ fn mismatch(wanted: u32, found: u32) -> TypeKind {
 #[test]
 fn settings_have_ranges(rt: HostRuntime) -> Result<(), Fail> {
     let alloc = rt.alloc();
-    assert_eq!(rt; with(alloc, 2, RawLine::Vars(9))?, at(2, TypeKind::SettingRange));
-    assert_eq!(rt; with(alloc, 3, RawLine::Size(33))?, at(3, TypeKind::SettingRange));
-    assert_eq!(rt; with(alloc, 4, RawLine::Width(17))?, at(4, TypeKind::SettingRange));
-    assert_eq!(rt; with(alloc, 5, RawLine::Budget(0))?, at(5, TypeKind::SettingRange));
-    assert_eq!(rt; with(alloc, 6, RawLine::Pairs(4097))?, at(6, TypeKind::SettingRange));
+    assert_eq!(rt;
+        with(alloc, 2, RawLine::Vars(9))?,
+        at(2, TypeKind::SettingRange)
+    );
+    assert_eq!(rt;
+        with(alloc, 3, RawLine::Size(33))?,
+        at(3, TypeKind::SettingRange)
+    );
+    assert_eq!(rt;
+        with(alloc, 4, RawLine::Width(17))?,
+        at(4, TypeKind::SettingRange)
+    );
+    assert_eq!(rt;
+        with(alloc, 5, RawLine::Budget(0))?,
+        at(5, TypeKind::SettingRange)
+    );
+    assert_eq!(rt;
+        with(alloc, 6, RawLine::Pairs(4097))?,
+        at(6, TypeKind::SettingRange)
+    );
     Ok(())
 }
 
@@ -257,9 +275,23 @@ fn seeded(alloc: Global, height: u64, count: u64) -> Result<Vec<RawLine>, NoMemo
         count,
     };
     add(&mut lines, line)?;
-    add(&mut lines, RawLine::SortLine2 { name: text(alloc, "A")?, vars: 1, width: 1 })?;
+    add(
+        &mut lines,
+        RawLine::SortLine2 {
+            name: text(alloc, "A")?,
+            vars: 1,
+            width: 1,
+        },
+    )?;
     add(&mut lines, con(alloc, "P", &["B"])?)?;
-    add(&mut lines, RawLine::SortLine2 { name: text(alloc, "B")?, vars: 1, width: 1 })?;
+    add(
+        &mut lines,
+        RawLine::SortLine2 {
+            name: text(alloc, "B")?,
+            vars: 1,
+            width: 1,
+        },
+    )?;
     add(&mut lines, con(alloc, "Q", &[])?)?;
     add(&mut lines, RawLine::Explore(names(alloc, &["P"])?))?;
     add(&mut lines, RawLine::End)?;
@@ -270,11 +302,17 @@ fn seeded(alloc: Global, height: u64, count: u64) -> Result<Vec<RawLine>, NoMemo
 fn heights_reach_every_sort(rt: HostRuntime) -> Result<(), Fail> {
     let alloc = rt.alloc();
     let low = seeded(alloc, 1, 1)?;
-    assert_eq!(rt; check_lines(alloc, low.as_slice()), at(2, TypeKind::SettingRange));
+    assert_eq!(rt;
+        check_lines(alloc, low.as_slice()),
+        at(2, TypeKind::SettingRange)
+    );
     let high = seeded(alloc, 2, 1)?;
     assert_eq!(rt; check_lines(alloc, high.as_slice()), Ok(()));
     let many = seeded(alloc, 2, 17)?;
-    assert_eq!(rt; check_lines(alloc, many.as_slice()), at(2, TypeKind::SettingRange));
+    assert_eq!(rt;
+        check_lines(alloc, many.as_slice()),
+        at(2, TypeKind::SettingRange)
+    );
     Ok(())
 }
 
@@ -287,20 +325,57 @@ fn sorts_and_symbols(rt: HostRuntime) -> Result<(), Fail> {
     put_before(&mut lines, 11, sort(alloc, "X")?)?;
     put_before(&mut lines, 11, con(alloc, "Q", &["X"])?)?;
     put_before(&mut lines, 11, sort(alloc, "Nat")?)?;
-    assert_eq!(rt; check_lines(alloc, lines.as_slice()), at(11, TypeKind::NameTwice));
-    assert_eq!(rt; with(alloc, 10, con(alloc, "Z", &["Nut"])?)?, at(10, TypeKind::NameTwice));
-    assert_eq!(rt; with(alloc, 11, fun(alloc, "S", &["Nut"], "Nat")?)?, at(11, TypeKind::NameTwice));
-    let line = RawLine::ConLine3 { weight: 5, name: text(alloc, "S")?, args: names(alloc, &["Nut"])? };
+    assert_eq!(rt;
+        check_lines(alloc, lines.as_slice()),
+        at(11, TypeKind::NameTwice)
+    );
+    assert_eq!(rt;
+        with(alloc, 10, con(alloc, "Z", &["Nut"])?)?,
+        at(10, TypeKind::NameTwice)
+    );
+    assert_eq!(rt;
+        with(alloc, 11, fun(alloc, "S", &["Nut"], "Nat")?)?,
+        at(11, TypeKind::NameTwice)
+    );
+    let line = RawLine::ConLine3 {
+        weight: 5,
+        name: text(alloc, "S")?,
+        args: names(alloc, &["Nut"])?,
+    };
     assert_eq!(rt; with(alloc, 10, line)?, at(10, TypeKind::UnknownSort));
-    let line = RawLine::ConLine3 { weight: 5, name: text(alloc, "S")?, args: names(alloc, &["Nat"])? };
+    let line = RawLine::ConLine3 {
+        weight: 5,
+        name: text(alloc, "S")?,
+        args: names(alloc, &["Nat"])?,
+    };
     assert_eq!(rt; with(alloc, 10, line)?, at(10, TypeKind::SettingRange));
-    let line = RawLine::SortLine2 { name: text(alloc, "Nat")?, vars: 9, width: 1 };
+    let line = RawLine::SortLine2 {
+        name: text(alloc, "Nat")?,
+        vars: 9,
+        width: 1,
+    };
     assert_eq!(rt; with(alloc, 8, line)?, at(8, TypeKind::SettingRange));
     let mut lines = addition(alloc)?;
     take_out(&mut lines, 9);
-    put(&mut lines, 8, RawLine::SortLine2 { name: text(alloc, "Nat")?, vars: 9, width: 1 });
-    assert_eq!(rt; check_lines(alloc, lines.as_slice()), at(8, TypeKind::EmptySort));
-    let line = RawLine::FunLine3 { weight: 0, name: text(alloc, "plus")?, args: names(alloc, &["Nat", "Nat"])?, result: text(alloc, "Nat")? };
+    put(
+        &mut lines,
+        8,
+        RawLine::SortLine2 {
+            name: text(alloc, "Nat")?,
+            vars: 9,
+            width: 1,
+        },
+    );
+    assert_eq!(rt;
+        check_lines(alloc, lines.as_slice()),
+        at(8, TypeKind::EmptySort)
+    );
+    let line = RawLine::FunLine3 {
+        weight: 0,
+        name: text(alloc, "plus")?,
+        args: names(alloc, &["Nat", "Nat"])?,
+        result: text(alloc, "Nat")?,
+    };
     assert_eq!(rt; with(alloc, 11, line)?, at(11, TypeKind::SettingRange));
     Ok(())
 }
@@ -310,23 +385,50 @@ fn cases(rt: HostRuntime) -> Result<(), Fail> {
     let alloc = rt.alloc();
     let mut lines = addition(alloc)?;
     take_out(&mut lines, 13);
-    assert_eq!(rt; check_lines(alloc, lines.as_slice()), at(12, TypeKind::CaseMissing));
+    assert_eq!(rt;
+        check_lines(alloc, lines.as_slice()),
+        at(12, TypeKind::CaseMissing)
+    );
     put(&mut lines, 12, RawLine::MatchLine(2));
-    assert_eq!(rt; check_lines(alloc, lines.as_slice()), at(12, TypeKind::Arity));
-    assert_eq!(rt; more(alloc, 15, case(alloc, "pluz", param(alloc, 9))?)?, at(15, TypeKind::UnknownName));
-    assert_eq!(rt; more(alloc, 15, case(alloc, "plus", param(alloc, 9))?)?, at(15, mismatch(0, 0)));
-    assert_eq!(rt; more(alloc, 15, case(alloc, "Z", param(alloc, 9))?)?, at(15, TypeKind::CaseTwice));
-    assert_eq!(rt; more(alloc, 15, case(alloc, "Z", param(alloc, 1))?)?, at(15, TypeKind::CaseTwice));
-    assert_eq!(rt; with(alloc, 13, case(alloc, "Z", param(alloc, 2))?)?, at(13, TypeKind::Arity));
+    assert_eq!(rt;
+        check_lines(alloc, lines.as_slice()),
+        at(12, TypeKind::Arity)
+    );
+    assert_eq!(rt;
+        more(alloc, 15, case(alloc, "pluz", param(alloc, 9))?)?,
+        at(15, TypeKind::UnknownName)
+    );
+    assert_eq!(rt;
+        more(alloc, 15, case(alloc, "plus", param(alloc, 9))?)?,
+        at(15, mismatch(0, 0))
+    );
+    assert_eq!(rt;
+        more(alloc, 15, case(alloc, "Z", param(alloc, 9))?)?,
+        at(15, TypeKind::CaseTwice)
+    );
+    assert_eq!(rt;
+        more(alloc, 15, case(alloc, "Z", param(alloc, 1))?)?,
+        at(15, TypeKind::CaseTwice)
+    );
+    assert_eq!(rt;
+        with(alloc, 13, case(alloc, "Z", param(alloc, 2))?)?,
+        at(13, TypeKind::Arity)
+    );
     // a function that is declared later is no name yet
     let mut lines = addition(alloc)?;
     put_before(&mut lines, 15, RawLine::BodyLine(param(alloc, 0)))?;
     put_before(&mut lines, 15, fun(alloc, "late", &["Nat"], "Nat")?)?;
     put_before(&mut lines, 15, case(alloc, "late", param(alloc, 9))?)?;
-    assert_eq!(rt; check_lines(alloc, lines.as_slice()), at(15, TypeKind::UnknownName));
+    assert_eq!(rt;
+        check_lines(alloc, lines.as_slice()),
+        at(15, TypeKind::UnknownName)
+    );
     put(&mut lines, 15, case(alloc, "S", param(alloc, 9))?);
     put(&mut lines, 14, case(alloc, "S", atom(alloc, "late")?)?);
-    assert_eq!(rt; check_lines(alloc, lines.as_slice()), at(14, TypeKind::LaterCall));
+    assert_eq!(rt;
+        check_lines(alloc, lines.as_slice()),
+        at(14, TypeKind::LaterCall)
+    );
     Ok(())
 }
 
@@ -344,16 +446,36 @@ fn bodies(rt: HostRuntime) -> Result<(), Fail> {
     take_out(&mut lines, 14);
     take_out(&mut lines, 13);
     put(&mut lines, 12, RawLine::BodyLine(field(alloc, 0)));
-    assert_eq!(rt; check_lines(alloc, lines.as_slice()), at(12, TypeKind::Arity));
-    put(&mut lines, 12, RawLine::BodyLine(over_two(alloc, "plus", param(alloc, 0), param(alloc, 9))?));
-    assert_eq!(rt; check_lines(alloc, lines.as_slice()), at(12, TypeKind::NotSmaller));
+    assert_eq!(rt;
+        check_lines(alloc, lines.as_slice()),
+        at(12, TypeKind::Arity)
+    );
+    put(
+        &mut lines,
+        12,
+        RawLine::BodyLine(over_two(alloc, "plus", param(alloc, 0), param(alloc, 9))?),
+    );
+    assert_eq!(rt;
+        check_lines(alloc, lines.as_slice()),
+        at(12, TypeKind::NotSmaller)
+    );
     // a call of another sort's function
     let mut lines = two_sorts(alloc)?;
-    put(&mut lines, 16, case(alloc, "S", over(alloc, "S", atom(alloc, "T")?)?)?);
-    assert_eq!(rt; check_lines(alloc, lines.as_slice()), at(16, mismatch(0, 1)));
+    put(
+        &mut lines,
+        16,
+        case(alloc, "S", over(alloc, "S", atom(alloc, "T")?)?)?,
+    );
+    assert_eq!(rt;
+        check_lines(alloc, lines.as_slice()),
+        at(16, mismatch(0, 1))
+    );
     put(&mut lines, 16, case(alloc, "T", param(alloc, 9))?);
     put_before(&mut lines, 17, case(alloc, "S", plus_more(alloc)?)?)?;
-    assert_eq!(rt; check_lines(alloc, lines.as_slice()), at(16, mismatch(0, 1)));
+    assert_eq!(rt;
+        check_lines(alloc, lines.as_slice()),
+        at(16, mismatch(0, 1))
+    );
     Ok(())
 }
 
@@ -364,19 +486,40 @@ fn explored_and_background(rt: HostRuntime) -> Result<(), Fail> {
     assert_eq!(rt; with(alloc, 15, line)?, at(15, TypeKind::UnknownName));
     let line = RawLine::Explore(names(alloc, &["plus", "plus", "nope"])?);
     assert_eq!(rt; with(alloc, 15, line)?, at(15, TypeKind::NameTwice));
-    let line = RawLine::Background { left: variable(alloc, "Nut", 9)?, right: atom(alloc, "nope")? };
+    let line = RawLine::Background {
+        left: variable(alloc, "Nut", 9)?,
+        right: atom(alloc, "nope")?,
+    };
     assert_eq!(rt; more(alloc, 16, line)?, at(16, TypeKind::UnknownSort));
-    let line = RawLine::Background { left: variable(alloc, "Nat", 2)?, right: atom(alloc, "nope")? };
+    let line = RawLine::Background {
+        left: variable(alloc, "Nat", 2)?,
+        right: atom(alloc, "nope")?,
+    };
     assert_eq!(rt; more(alloc, 16, line)?, at(16, TypeKind::SettingRange));
-    let line = RawLine::Background { left: variable(alloc, "Nat", 1)?, right: atom(alloc, "S")? };
+    let line = RawLine::Background {
+        left: variable(alloc, "Nat", 1)?,
+        right: atom(alloc, "S")?,
+    };
     assert_eq!(rt; more(alloc, 16, line)?, at(16, TypeKind::Arity));
     let mut lines = two_sorts(alloc)?;
-    let line = RawLine::Background { left: atom(alloc, "Z")?, right: atom(alloc, "T")? };
+    let line = RawLine::Background {
+        left: atom(alloc, "Z")?,
+        right: atom(alloc, "T")?,
+    };
     put_before(&mut lines, 18, line)?;
-    assert_eq!(rt; check_lines(alloc, lines.as_slice()), at(18, mismatch(0, 1)));
-    let line = RawLine::Background { left: over(alloc, "S", variable(alloc, "B", 2)?)?, right: atom(alloc, "T")? };
+    assert_eq!(rt;
+        check_lines(alloc, lines.as_slice()),
+        at(18, mismatch(0, 1))
+    );
+    let line = RawLine::Background {
+        left: over(alloc, "S", variable(alloc, "B", 2)?)?,
+        right: atom(alloc, "T")?,
+    };
     put(&mut lines, 18, line);
-    assert_eq!(rt; check_lines(alloc, lines.as_slice()), at(18, TypeKind::SettingRange));
+    assert_eq!(rt;
+        check_lines(alloc, lines.as_slice()),
+        at(18, TypeKind::SettingRange)
+    );
     Ok(())
 }
 
@@ -394,18 +537,33 @@ fn pools(rt: HostRuntime) -> Result<(), Fail> {
     let alloc = rt.alloc();
     let mut lines = addition(alloc)?;
     take_out(&mut lines, 17);
-    assert_eq!(rt; check_lines(alloc, lines.as_slice()), at(16, TypeKind::Arity));
-    assert_eq!(rt; with(alloc, 17, one_value(alloc, "Nut", atom(alloc, "nope")?)?)?, at(17, TypeKind::UnknownSort));
-    assert_eq!(rt; with(alloc, 17, one_value(alloc, "Nat", atom(alloc, "nope")?)?)?, at(17, TypeKind::Arity));
+    assert_eq!(rt;
+        check_lines(alloc, lines.as_slice()),
+        at(16, TypeKind::Arity)
+    );
+    assert_eq!(rt;
+        with(alloc, 17, one_value(alloc, "Nut", atom(alloc, "nope")?)?)?,
+        at(17, TypeKind::UnknownSort)
+    );
+    assert_eq!(rt;
+        with(alloc, 17, one_value(alloc, "Nat", atom(alloc, "nope")?)?)?,
+        at(17, TypeKind::Arity)
+    );
     let mut values = Seq::new(alloc);
     values.push(atom(alloc, "Z")?)?;
     values.push(atom(alloc, "plus")?)?;
-    let line = RawLine::Values { sort: text(alloc, "Nat")?, values };
+    let line = RawLine::Values {
+        sort: text(alloc, "Nat")?,
+        values,
+    };
     assert_eq!(rt; with(alloc, 17, line)?, at(17, TypeKind::UnknownName));
     let mut lines = two_sorts(alloc)?;
     assert_eq!(rt; check_lines(alloc, lines.as_slice()), Ok(()));
     put(&mut lines, 19, one_value(alloc, "B", atom(alloc, "nope")?)?);
-    assert_eq!(rt; check_lines(alloc, lines.as_slice()), at(19, mismatch(0, 1)));
+    assert_eq!(rt;
+        check_lines(alloc, lines.as_slice()),
+        at(19, mismatch(0, 1))
+    );
     Ok(())
 }
 
@@ -418,10 +576,42 @@ fn weights_have_a_range(rt: HostRuntime) -> Result<(), Fail> {
     add(&mut lines, RawLine::Budget(10))?;
     add(&mut lines, RawLine::Pairs(20))?;
     add(&mut lines, RawLine::PoolsGiven)?;
-    add(&mut lines, RawLine::SortLine2 { name: text(alloc, "B")?, vars: 1, width: 2 })?;
-    add(&mut lines, RawLine::ConLine3 { weight: 1, name: text(alloc, "F")?, args: Seq::new(alloc) })?;
-    add(&mut lines, RawLine::ConLine3 { weight: 1, name: text(alloc, "T")?, args: Seq::new(alloc) })?;
-    add(&mut lines, RawLine::FunLine3 { weight: 5, name: text(alloc, "not")?, args: names(alloc, &["B"])?, result: text(alloc, "B")? })?;
-    assert_eq!(rt; check_lines(alloc, lines.as_slice()), at(9, TypeKind::SettingRange));
+    add(
+        &mut lines,
+        RawLine::SortLine2 {
+            name: text(alloc, "B")?,
+            vars: 1,
+            width: 2,
+        },
+    )?;
+    add(
+        &mut lines,
+        RawLine::ConLine3 {
+            weight: 1,
+            name: text(alloc, "F")?,
+            args: Seq::new(alloc),
+        },
+    )?;
+    add(
+        &mut lines,
+        RawLine::ConLine3 {
+            weight: 1,
+            name: text(alloc, "T")?,
+            args: Seq::new(alloc),
+        },
+    )?;
+    add(
+        &mut lines,
+        RawLine::FunLine3 {
+            weight: 5,
+            name: text(alloc, "not")?,
+            args: names(alloc, &["B"])?,
+            result: text(alloc, "B")?,
+        },
+    )?;
+    assert_eq!(rt;
+        check_lines(alloc, lines.as_slice()),
+        at(9, TypeKind::SettingRange)
+    );
     Ok(())
 }

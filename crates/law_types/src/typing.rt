@@ -1,5 +1,4 @@
 ghost use Rattle.std.specs.Prelude.{◌≡◌, Some, length, slice_get, IfOk};
-
 ghost use Rattle.law_types.specs.Names.{same_name, is_named, number_of};
 ghost use Rattle.law_types.specs.TypedTerm.{IsTyped, tree_over, tree_of};
 

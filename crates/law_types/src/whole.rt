@@ -118,12 +118,7 @@ fn sort_ids(alloc: Global, sorts: &Names, names: &[Text]) -> Result<Seq<SortId>,
     Ok(ids)
 }
 
-fn constructor(
-    alloc: Global,
-    sorts: &Names,
-    before: u32,
-    args: &[Text],
-) -> Result<Sym, NoMemory>
+fn constructor(alloc: Global, sorts: &Names, before: u32, args: &[Text]) -> Result<Sym, NoMemory>
     ensures { IfOk result (λ symbol. symbol ≡ constructor sorts.now before args.now) }
 {
     Ok(Sym::Con(Con {
@@ -132,12 +127,7 @@ fn constructor(
     }))
 }
 
-fn function(
-    alloc: Global,
-    sorts: &Names,
-    args: &[Text],
-    gives: &Text,
-) -> Result<Sym, NoMemory>
+fn function(alloc: Global, sorts: &Names, args: &[Text], gives: &Text) -> Result<Sym, NoMemory>
     ensures { IfOk result (λ symbol. symbol ≡ function sorts.now args.now gives.now) }
 {
     Ok(Sym::Fun(Fun {
