@@ -31,7 +31,7 @@ unfolding is_low
 starts_low text = record { one_each = replicate_length (length text.sorts); each = λ sort within. replicate_false (length text.sorts) sort.0 }
 
 -- a sort that is declared, and one that isn't
-below : (a c : ℕ) → a < c → nat_lt a c ≡ true
+pub below : (a c : ℕ) → a < c → nat_lt a c ≡ true
 below a c h = search rules
 
 not_below : (a c : ℕ) → c ≤ a → nat_lt a c ≡ false

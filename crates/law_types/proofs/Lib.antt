@@ -2,7 +2,9 @@ mod NameTable
 mod NumberFacts
 mod TreeOfFacts
 mod HeightFacts
+mod StableFacts
 mod RowFacts
 mod TailFacts
 mod LineSteps
+pub mod SideFacts
 pub mod TermFacts

@@ -1,4 +1,4 @@
-ghost use Rattle.std.specs.Prelude.{◌≡◌, ◌+◌, ◌<◌, length, false, replicate, IfOk, IsTrue};
+ghost use Rattle.std.specs.Prelude.{◌≡◌, ◌+◌, ◌<◌, length, false, true, replicate, IfOk, IsTrue};
 ghost use Rattle.std.specs.List.{list_all};
 ghost use Rattle.law_types.specs.Declarations.{is_low};
 ghost use Rattle.law_types.specs.Heights.{AreLow, marked};
@@ -70,14 +70,43 @@ fn next_low(alloc: Global, text: &Whole, height: u32, lows: &[bool]) -> Result<V
     Ok(next)
 }
 
-/// The table for a height.
+/// Whether two tables of one length are the same.
+fn is_same(left: &[bool], right: &[bool]) -> bool
+    requires { length left.now ≡ length right.now }
+    ensures { result ≡ true → left.now ≡ right.now }
+{
+    for (at, low) in left.iter().enumerate() {
+        if *low != right[at] {
+            return false;
+        }
+    }
+    true
+}
+
+/// Whether the next height changes nothing, where it isn't the first.
+fn is_still(at: u32, lows: &Vec<bool>, next: &Vec<bool>) -> bool
+    requires { length lows.now.items ≡ length next.now.items }
+    ensures { result ≡ true → (0 < at) × (lows.now.items ≡ next.now.items) }
+{
+    if at == 0 {
+        return false;
+    }
+    is_same(lows.as_slice(), next.as_slice())
+}
+
+/// The table for a height. From a height on that changes nothing it stays the same.
 #[tactic(auto, using(crate::proofs::HeightFacts::height_facts))]
 pub(crate) fn lows_at(alloc: Global, text: &Whole, height: u32) -> Result<Vec<bool>, NoMemory>
     ensures { IfOk result (λ lows. AreLow text.now height lows.items) }
 {
     let mut lows = none_low(alloc, text.sorts.len())?;
     for at in 0..height {
-        lows = next_low(alloc, text, at, lows.as_slice())?;
+        let next = next_low(alloc, text, at, lows.as_slice())?;
+        let still = is_still(at, &lows, &next);
+        if still {
+            return Ok(lows);
+        }
+        lows = next;
     }
     Ok(lows)
 }

@@ -615,3 +615,58 @@ fn weights_have_a_range(rt: HostRuntime) -> Result<(), Fail> {
     );
     Ok(())
 }
+
+/// A name for each number.
+fn numbered(alloc: Global, first: u8, number: u8) -> Result<Text, NoMemory> {
+    let mut name = Text::new(alloc);
+    name.push(first)?;
+    name.push(b'a' + number / 8)?;
+    name.push(b'a' + number % 8)?;
+    Ok(name)
+}
+
+#[test]
+fn there_are_few_sorts(rt: HostRuntime) -> Result<(), Fail> {
+    let alloc = rt.alloc();
+    let mut lines = Vec::new(alloc);
+    for number in 0..64u8 {
+        add(
+            &mut lines,
+            RawLine::SortLine(numbered(alloc, b'S', number)?),
+        )?;
+        let line = RawLine::ConLine {
+            name: numbered(alloc, b'C', number)?,
+            args: Seq::new(alloc),
+        };
+        add(&mut lines, line)?;
+    }
+    assert_eq!(rt; check_lines(alloc, lines.as_slice()), Ok(()));
+    // the 65th, which is the first once more, and has no value
+    add(&mut lines, RawLine::SortLine(numbered(alloc, b'S', 0)?))?;
+    assert_eq!(rt;
+        check_lines(alloc, lines.as_slice()),
+        at(129, TypeKind::SettingRange)
+    );
+    Ok(())
+}
+
+#[test]
+fn there_are_few_pools(rt: HostRuntime) -> Result<(), Fail> {
+    let alloc = rt.alloc();
+    let mut lines = addition(alloc)?;
+    put(&mut lines, 4, RawLine::Width(1));
+    put(&mut lines, 17, one_value(alloc, "Nat", atom(alloc, "Z")?)?);
+    take_out(&mut lines, 18);
+    for _ in 0..15u8 {
+        add(&mut lines, RawLine::Pool)?;
+        add(&mut lines, one_value(alloc, "Nat", atom(alloc, "Z")?)?)?;
+    }
+    assert_eq!(rt; check_lines(alloc, lines.as_slice()), Ok(()));
+    // the 17th, which has no values either
+    add(&mut lines, RawLine::Pool)?;
+    assert_eq!(rt;
+        check_lines(alloc, lines.as_slice()),
+        at(48, TypeKind::SettingRange)
+    );
+    Ok(())
+}
