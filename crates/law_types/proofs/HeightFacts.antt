@@ -1,16 +1,12 @@
 -- The table of low sorts: at the start, and one symbol after another.
-use Rattle.std.proofs.Common.{rules, ◌≡◌, ◌≢◌, ℕ, zero, suc, ◌+◌, ◌<◌, ◌≤◌, List, [], ◌∷◌, ◌++◌, length, take, replicate, get_or, set, slice_get, slice_set, Bool, true, false, not, ◌||◌, ◌&&◌, nat_lt, if◌then◌else◌, refl, sym, ap, subst, ◌∙◌, arith, true≢false, Option, Some, None}
-use Rattle.std.specs.List.{list_any, list_all}
+use Rattle.std.proofs.Common.{rules, ◌≡◌, ℕ, zero, suc, ◌+◌, ◌<◌, ◌≤◌, List, [], length, take, replicate, get_or, Bool, true, false, not, ◌||◌, nat_lt, refl, sym, ap, subst, ◌∙◌, arith}
+use Rattle.std.specs.List.{list_any}
 use Rattle.std.proofs.lemmas.List.{take_all}
 use Rattle.law_sig.specs.WellFormed.{makes_from}
-use Rattle.law_sig.specs.Trees.{same_sort}
 use Rattle.law_sig.specs.declared.tree.SortId.{SortId}
-use Rattle.law_sig.specs.declared.parts.Con.{Con}
-use Rattle.law_sig.specs.declared.parts.Fun.{Fun}
 use Rattle.law_sig.specs.declared.parts.Sym.{Sym}
-use Rattle.law_sig.specs.declared.parts.Sym.TheVariants as sym
 use Rattle.law_types.specs.Declarations.{is_low}
-use Rattle.law_types.specs.Heights.{AreLow, AreMarked, marked}
+use Rattle.law_types.specs.Heights.{AreLow, AreMarked}
 use Rattle.law_types.specs.declared.whole.Whole.{Whole}
 
 -- what has no symbols to look at yet

@@ -1,10 +1,9 @@
 -- A line and the lines behind it.
-use Rattle.std.proofs.Common.{◌≡◌, ℕ, suc, ◌+◌, List, [], ◌∷◌, drop, Option, Some, None, slice_get, refl, sym, ap, ◌∙◌, arith}
+use Rattle.std.proofs.Common.{◌≡◌, ℕ, suc, ◌+◌, List, [], ◌∷◌, drop, Some, slice_get, refl, sym, ap, ◌∙◌, arith}
 use Rattle.law_read.specs.declared.raw.RawLine.{RawLine}
 use Rattle.law_read.specs.declared.raw.RawLine.TheVariants as line
 use Rattle.law_types.specs.TermFaults.{first_of}
 use Rattle.law_types.specs.LineFaults.{setting_fault, declared_fault, line_fault, fault_at, seen_after, faults_from}
-use Rattle.law_types.specs.declared.errors.TypeErr.{TypeErr}
 use Rattle.law_types.specs.declared.errors.TypeErr.TheVariants as err
 use Rattle.law_types.specs.declared.errors.TypeKind.{TypeKind}
 use Rattle.law_types.specs.declared.seen.Seen.{Seen}

@@ -1,5 +1,5 @@
 -- A table of constructors, row by row.
-use Rattle.std.proofs.Common.{◌≡◌, ◌<◌, ℕ, List, length, Some, slice_get, sym, subst, ◌∙◌}
+use Rattle.std.proofs.Common.{◌<◌, ℕ, List, sym, subst, ◌∙◌}
 use Rattle.std.proofs.lemmas.Option.{slice_get_within}
 use Rattle.law_sig.specs.Signature.{constructors_from}
 use Rattle.law_sig.specs.declared.tree.SortId.{SortId}

@@ -1,13 +1,12 @@
 -- A side of a background equation that is well-formed shows no fault.
-use Rattle.std.proofs.Common.{◌≡◌, ℕ, zero, suc, ◌<◌, List, [], ◌∷◌, map, length, Bool, true, false, not, ◌&&◌, ◌==◌, eqb, eq-eqb, nat_lt, rules, arith, true≢false, Option, Some, None, IsTrue, slice_get, slice_index_or, option_map, refl, sym, ap, ap₂, ◌∙◌, subst}
+use Rattle.std.proofs.Common.{◌≡◌, ℕ, suc, ◌<◌, List, [], ◌∷◌, map, length, Bool, true, not, eq-eqb, rules, Option, Some, None, slice_get, refl, sym, ap, ◌∙◌, subst}
 use Rattle.std.specs.List.{list_all}
 use Rattle.std.specs.Option.{option_or}
 use Rattle.std.proofs.lemmas.List.{length-map}
 use Rattle.std.proofs.lemmas.Option.{slice_get-get_or, slice_get_within}
 use Rattle.law_sig.specs.Lists.{Each}
-use Rattle.law_sig.specs.Trees.{same_sort}
-use Rattle.law_sig.specs.Signature.{symbol_at, args_of, result_of, vars_at, sort_of}
-use Rattle.law_sig.specs.WellFormed.{IsWellFormed, vars_step, is_function}
+use Rattle.law_sig.specs.Signature.{args_of, result_of, sort_of}
+use Rattle.law_sig.specs.WellFormed.{IsWellFormed, vars_step}
 use Rattle.law_sig.specs.declared.tree.SortId.{SortId}
 use Rattle.law_sig.specs.declared.tree.SymId.{SymId}
 use Rattle.law_sig.specs.declared.tree.Tree.{Tree}
@@ -17,7 +16,7 @@ use Rattle.law_sig.specs.declared.parts.Sym.{Sym}
 use Rattle.law_sig.specs.declared.parts.Sym.TheVariants as sym
 use Rattle.law_sig.specs.declared.parts.SigParts.{SigParts}
 use Rattle.law_laws.proofs.TreeFacts.{tree_induct, fold-Var, fold-App}
-use Rattle.law_laws.proofs.Sorts.{HaveSorts, IsApplication, sorted_app, sorted_var, same_sort_itself, both_true}
+use Rattle.law_laws.proofs.Sorts.{HaveSorts, sorted_app, sorted_var, same_sort_itself, both_true}
 use Rattle.law_read.specs.declared.raw.RawHead.{RawHead}
 use Rattle.law_read.specs.declared.raw.RawHead.TheVariants as head
 use Rattle.law_read.specs.declared.raw.RawTerm.{RawTerm}
@@ -25,13 +24,13 @@ use Rattle.law_read.specs.declared.raw.RawTerm.TheOpen.{RawTerm-F}
 use Rattle.law_read.specs.declared.raw.RawTerm.TheFolds.{fold-roll-RawTerm}
 use Rattle.law_types.specs.Names.{number_of}
 use Rattle.law_types.specs.Naming.{sort_name, symbol_name, raw_term, named_term, name_step}
-use Rattle.law_types.specs.TermFaults.{Part, fault_if, first_of, mismatch, is_in_range, variable_faults, symbol_faults, name_faults, node_faults, is_field_term, part_step, argument_faults, head_symbol, symbol_of, wanted_of, term_fault}
+use Rattle.law_types.specs.TermFaults.{Part, fault_if, mismatch, is_in_range, variable_faults, symbol_faults, name_faults, node_faults, is_field_term, part_step, head_symbol, symbol_of, wanted_of, term_fault}
 use Rattle.law_types.specs.LineFaults.{side_scope}
 use Rattle.law_types.specs.declared.errors.TypeKind.{TypeKind}
 use Rattle.law_types.specs.declared.errors.TypeKind.TheVariants as kind
 use Rattle.law_types.specs.declared.scope.Scope.{Scope}
 use Rattle.law_types.specs.declared.whole.Whole.{Whole}
-use Rattle.law_types.proofs.TermFacts.{part_of, args_fault, fields_are}
+use Rattle.law_types.proofs.TermFacts.{args_fault, fields_are}
 use Rattle.law_types.proofs.TreeOfFacts.{number_again}
 
 -- A text declares what a signature does

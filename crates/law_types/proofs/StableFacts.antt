@@ -1,5 +1,5 @@
 -- A table that one more height leaves as it is stays so at every greater height.
-use Rattle.std.proofs.Common.{◌≡◌, ℕ, zero, suc, ◌+◌, ◌-◌, ◌<◌, ◌≤◌, List, length, Bool, true, false, not, ◌||◌, nat_lt, slice_index_or, refl, sym, ap, subst, ◌∙◌, arith, ◌⊎◌, inl, inr}
+use Rattle.std.proofs.Common.{◌≡◌, ℕ, zero, suc, ◌+◌, ◌-◌, ◌<◌, ◌≤◌, List, length, Bool, false, not, ◌||◌, nat_lt, slice_index_or, sym, ap, ◌∙◌, arith, ◌⊎◌, inl, inr}
 use Rattle.std.specs.List.{list_any}
 use Rattle.law_sig.specs.WellFormed.{makes_from}
 use Rattle.law_sig.specs.declared.tree.SortId.{SortId}

@@ -1,6 +1,5 @@
 -- Heights that are high enough for the sorts so far.
-use Rattle.std.proofs.Common.{◌≡◌, ℕ, suc, ◌+◌, ◌-◌, ◌<◌, Bool, true, false, ◌||◌, ap, sym, ◌∙◌, arith}
-use Rattle.law_sig.specs.declared.tree.SortId.{SortId}
+use Rattle.std.proofs.Common.{◌≡◌, ℕ, suc, ◌+◌, ◌-◌, ◌<◌, false, ◌||◌, ap, sym, ◌∙◌, arith}
 use Rattle.law_types.specs.LineFaults.{is_too_low, some_too_low}
 use Rattle.law_types.specs.declared.whole.Whole.{Whole}
 

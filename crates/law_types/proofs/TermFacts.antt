@@ -1,5 +1,5 @@
 -- The first fault of a term from the faults of its root and those of its arguments.
-use Rattle.std.proofs.Common.{◌≡◌, ℕ, zero, suc, ◌+◌, List, [], ◌∷◌, map, drop, Bool, true, false, is_some, Option, Some, None, slice_get, refl, sym, ap, ap₂, ◌∙◌, arith, true≢false}
+use Rattle.std.proofs.Common.{◌≡◌, ℕ, zero, suc, ◌+◌, List, [], ◌∷◌, map, drop, true, false, is_some, Option, Some, None, slice_get, refl, sym, ap, ap₂, ◌∙◌, arith, true≢false}
 use Rattle.std.specs.Option.{option_or}
 use Rattle.law_sig.specs.declared.tree.SortId.{SortId}
 use Rattle.law_read.specs.declared.raw.RawTerm.{RawTerm}
@@ -21,7 +21,7 @@ args_fault text scope sorts terms = argument_faults sorts (map (part_of text sco
 field_is : (text : Whole) (scope : Scope) (t : RawTerm) → (part_of text scope t).field ≡ is_field_term t
 field_is text scope t = ap (λ (p : Part). p.field) (fold_out-RawTerm Part (part_step text scope) t)
 
-fields_are : (text : Whole) (scope : Scope) (ts : List RawTerm) → map (λ (p : Part). p.field) (map (part_of text scope) ts) ≡ map is_field_term ts
+pub fields_are : (text : Whole) (scope : Scope) (ts : List RawTerm) → map (λ (p : Part). p.field) (map (part_of text scope) ts) ≡ map is_field_term ts
 fields_are text scope [] = refl
 fields_are text scope (t ∷ ts) = ap₂ ◌∷◌ (field_is text scope t) (fields_are text scope ts)
 

@@ -17,7 +17,7 @@ use Rattle.law_sig.specs.declared.tree.SortId.{SortId}
 use Rattle.law_sig.specs.declared.tree.SymId.{SymId}
 use Rattle.law_sig.specs.declared.tree.Tree.TheVariants.{Var, App}
 use Rattle.law_laws.proofs.TreeFacts.{tree_induct, fold-Var, fold-App}
-use Rattle.law_laws.proofs.Sorts.{HaveSorts, IsApplication, sorted_app, sorted_var}
+use Rattle.law_laws.proofs.Sorts.{HaveSorts, sorted_app, sorted_var}
 use Rattle.law_types.specs.Names.{number_of}
 use Rattle.law_types.proofs.NumberFacts.{stands_at, found_at}
 use Rattle.law_types.specs.Naming.{named_term, name_step, raw_term, sort_name, symbol_name}
@@ -134,7 +134,7 @@ sort_had : (o : Option SortId) → IsSome o → (s : SortId) × (o ≡ Some s)
 sort_had (Some s) h = (s, refl)
 sort_had None h = absurd (true≢false (sym h))
 
-number_again : (names : List (List ℕ)) (k : ℕ) → AreDistinct names → k < length names → number_of names (slice_index_or names k []) ≡ Some k
+pub number_again : (names : List (List ℕ)) (k : ℕ) → AreDistinct names → k < length names → number_of names (slice_index_or names k []) ≡ Some k
 number_again names k distinct within = found_at names (slice_index_or names k []) k distinct (slice_get-get_or names k [] within)
 
 all_again : (parts : SigParts) (ts : List Tree) (ws : List SortId) → Each (FoundAgain parts) ts → HaveSorts parts ts ws

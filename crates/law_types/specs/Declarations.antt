@@ -1,5 +1,5 @@
 -- What the lines of a text declare, whatever else may be wrong with them: names, and by number the sorts of symbols.
-use Rattle.std.specs.Prelude.{ℕ, zero, suc, ◌+◌, ◌-◌, List, [], ◌∷◌, length, map, Bool, false, true, nat_lt, not, ◌||◌, bytes_eq, Option, Some, None, option_map, unwrap_or, slice_get}
+use Rattle.std.specs.Prelude.{ℕ, zero, suc, ◌-◌, List, [], ◌∷◌, length, map, Bool, false, nat_lt, not, ◌||◌, Option, Some, None, unwrap_or}
 use Rattle.std.specs.List.{list_any}
 use Rattle.law_sig.specs.WellFormed.{makes_from}
 use Rattle.law_sig.specs.declared.tree.SortId.{SortId}

@@ -1,7 +1,7 @@
 -- The first line of a text that shows a fault, and the first fault on it. On each line the faults are looked for in order;
 -- some of them speak of what stands before the line, some of what stands behind it, and some of the whole text.
-use Rattle.std.specs.Prelude.{ℕ, zero, suc, ◌+◌, ◌-◌, ◌^◌, List, [], ◌∷◌, ◌++◌, length, Bool, true, false, not, ◌&&◌, ◌||◌, ◌==◌, nat_lt, nat_le, if◌then◌else◌, is_some, ◌≡◌, Result, Ok, Err, Option, Some, None, slice_get}
-use Rattle.std.specs.List.{list_all, list_any}
+use Rattle.std.specs.Prelude.{ℕ, zero, suc, ◌+◌, ◌-◌, List, [], ◌∷◌, ◌++◌, length, Bool, false, not, ◌&&◌, ◌||◌, ◌==◌, nat_lt, nat_le, is_some, ◌≡◌, Result, Ok, Err, Option, Some, None, slice_get}
+use Rattle.std.specs.List.{list_all}
 use Rattle.std.specs.Option.{option_or}
 use Rattle.law_sig.specs.Trees.{same_sort}
 use Rattle.law_sig.specs.Signature.{args_of, result_of, constructors_from}
@@ -16,7 +16,7 @@ use Rattle.law_read.specs.declared.raw.RawTerm.TheViews.{out-RawTerm}
 use Rattle.law_read.specs.declared.raw.RawLine.{RawLine}
 use Rattle.law_read.specs.declared.raw.RawLine.TheVariants as line
 use Rattle.law_types.specs.Names.{number_of, stands_before}
-use Rattle.law_types.specs.Declarations.{sort_id, whole, is_low, has_value}
+use Rattle.law_types.specs.Declarations.{whole, is_low, has_value}
 use Rattle.law_types.specs.TermFaults.{fault_if, first_of, mismatch, symbol_of, wanted_of, term_fault}
 use Rattle.law_types.specs.declared.errors.TypeErr.{TypeErr}
 use Rattle.law_types.specs.declared.errors.TypeErr.TheVariants as err

@@ -1,4 +1,4 @@
-use Rattle.std.proofs.Common.{rules, ◌≡◌, ◌∙◌, sym, ap, ap₂}
+use Rattle.std.proofs.Common.{rules, ◌∙◌, sym, ap₂}
 use Rattle.std.specs.Option.{option_or}
 use Rattle.law_types.proofs.LineSteps.{IsPlain, plain_line}
 use Rattle.law_types.proofs.check.line_fault.Goals as goal

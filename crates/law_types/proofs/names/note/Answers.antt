@@ -1,4 +1,4 @@
-use Rattle.std.proofs.Common.{rules, ◌≡◌, [], ◌∷◌, ◌++◌, OnOk, subst, sym}
+use Rattle.std.proofs.Common.{◌≡◌, [], ◌∷◌, ◌++◌, OnOk, subst, sym}
 use Rattle.law_types.proofs.NameTable.{noted}
 use Rattle.law_types.proofs.names.note.Goals as goal
 use Rattle.law_types.proofs.names.note.Goals.{in-Ok, in-Err}

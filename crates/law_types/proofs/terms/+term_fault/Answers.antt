@@ -1,7 +1,6 @@
-use Rattle.std.proofs.Common.{rules, arith, ◌≡◌, ◌+◌, ◌<◌, length, map, drop, Some, None, slice_get, ℕ, Bool, true, false, List, [], ◌∷◌, ◌++◌, sym, ap, ap₂, ◌∙◌, refl, is_some}
+use Rattle.std.proofs.Common.{◌≡◌, length, drop, Some, slice_get, sym, ap, ap₂, ◌∙◌, refl, is_some}
 use Rattle.std.proofs.lemmas.List.{drop_all}
 use Rattle.std.proofs.lemmas.Option.{slice_get_read}
-use Rattle.law_types.specs.TermFaults.{root_faults, head_symbol, wanted_of, term_fault}
 use Rattle.law_types.proofs.TermFacts.{args_first, args_fault, argument_found, argument_passed, spent}
 use Rattle.law_types.proofs.terms.+term_fault.Goals as goal
 

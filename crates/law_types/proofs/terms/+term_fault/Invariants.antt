@@ -1,5 +1,4 @@
-use Rattle.std.proofs.Common.{◌≡◌, drop, map}
-use Rattle.law_types.specs.TermFaults.{argument_faults}
+use Rattle.std.proofs.Common.{◌≡◌, drop}
 use Rattle.law_types.proofs.TermFacts.{args_fault}
 use Rattle.law_types.proofs.terms.+term_fault.Given as goal
 

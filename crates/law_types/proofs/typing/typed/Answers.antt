@@ -1,4 +1,4 @@
-use Rattle.std.proofs.Common.{◌≡◌, ◌∙◌, sym, ap, is_some}
+use Rattle.std.proofs.Common.{◌∙◌, sym, ap, is_some}
 use Rattle.law_types.proofs.TreeOfFacts.{typed_none, typed_unsorted}
 use Rattle.law_types.proofs.typing.typed.Goals as goal
 

@@ -1,7 +1,5 @@
-use Rattle.std.proofs.Common.{rules, arith, ◌≡◌, ◌∷◌, ◌++◌, ◌<◌, ◌^◌, length, ℕ, List, [], subst, sym, ap, ◌∙◌, refl, true, false, is_some}
+use Rattle.std.proofs.Common.{rules, arith, ap}
 use Rattle.std.proofs.lemmas.Grind.{common_steps}
-use Rattle.law_types.specs.Names.{number_of}
-use Rattle.law_types.specs.Table.{Finds}
 use Rattle.law_types.proofs.NameTable.{still_found, found_new}
 use Rattle.law_types.proofs.names.Names.with.Goals as goal
 use Rattle.law_types.proofs.names.Names.with.Goals.{then-not-known+in_ok-copy_bytes+in_ok-note, else-not-known}
