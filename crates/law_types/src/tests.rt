@@ -3,7 +3,14 @@ use crate::errors::{TypeErr, TypeKind};
 use law_read::{RawHead, RawLine, RawTerm};
 use law_sig::{NoMemory, Seq, SortId, Text};
 use std::alloc::Global;
-use std::test::Fail;
+
+type Words = Result<Seq<Text>, NoMemory>;
+
+type Term = Result<RawTerm, NoMemory>;
+
+type Line = Result<RawLine, NoMemory>;
+
+type Lines = Result<Vec<RawLine>, NoMemory>;
 
 fn text(alloc: Global, word: &str) -> Result<Text, NoMemory> {
     let mut bytes = Text::new(alloc);
@@ -11,8 +18,7 @@ fn text(alloc: Global, word: &str) -> Result<Text, NoMemory> {
     Ok(bytes)
 }
 
-/// The words of a line, each of one letter or more, between single spaces.
-fn names(alloc: Global, words: &[&str]) -> Result<Seq<Text>, NoMemory> {
+fn names(alloc: Global, words: &[&str]) -> Words {
     let mut found = Seq::new(alloc);
     for word in words {
         found.push(text(alloc, word)?)?;
@@ -20,65 +26,72 @@ fn names(alloc: Global, words: &[&str]) -> Result<Seq<Text>, NoMemory> {
     Ok(found)
 }
 
-fn atom(alloc: Global, name: &str) -> Result<RawTerm, NoMemory> {
+fn leaf(alloc: Global, head: RawHead) -> Term {
     Ok(RawTerm {
-        head: RawHead::Name(text(alloc, name)?),
+        head,
         args: Seq::new(alloc),
     })
 }
 
-fn variable(alloc: Global, sort: &str, index: u32) -> Result<RawTerm, NoMemory> {
-    Ok(RawTerm {
-        head: RawHead::Var(text(alloc, sort)?, index),
-        args: Seq::new(alloc),
-    })
+fn atom(alloc: Global, name: &str) -> Term {
+    leaf(alloc, RawHead::Name(text(alloc, name)?))
 }
 
-fn param(alloc: Global, number: u32) -> RawTerm {
-    RawTerm {
-        head: RawHead::Param(number),
-        args: Seq::new(alloc),
-    }
+fn variable(alloc: Global, sort: &str, index: u32) -> Term {
+    leaf(alloc, RawHead::Var(text(alloc, sort)?, index))
 }
 
-fn field(alloc: Global, number: u32) -> RawTerm {
-    RawTerm {
-        head: RawHead::Field(number),
-        args: Seq::new(alloc),
-    }
+fn param(alloc: Global, number: u32) -> Term {
+    leaf(alloc, RawHead::Param(number))
 }
 
-fn over(alloc: Global, name: &str, arg: RawTerm) -> Result<RawTerm, NoMemory> {
-    let mut args = Seq::new(alloc);
-    args.push(arg)?;
-    Ok(RawTerm {
-        head: RawHead::Name(text(alloc, name)?),
-        args,
-    })
+fn field(alloc: Global, number: u32) -> Term {
+    leaf(alloc, RawHead::Field(number))
 }
 
-fn over_two(alloc: Global, name: &str, arg: RawTerm, other: RawTerm) -> Result<RawTerm, NoMemory> {
-    let mut args = Seq::new(alloc);
-    args.push(arg)?;
-    args.push(other)?;
-    Ok(RawTerm {
-        head: RawHead::Name(text(alloc, name)?),
-        args,
-    })
+/// The term with one argument more.
+fn on(term: Term, arg: Term) -> Term {
+    let mut whole = term?;
+    whole.args.push(arg?)?;
+    Ok(whole)
 }
 
-fn sort(alloc: Global, name: &str) -> Result<RawLine, NoMemory> {
+fn over(alloc: Global, name: &str, arg: Term) -> Term {
+    on(atom(alloc, name), arg)
+}
+
+fn over_two(alloc: Global, name: &str, arg: Term, other: Term) -> Term {
+    on(over(alloc, name, arg), other)
+}
+
+fn sort(alloc: Global, name: &str) -> Line {
     Ok(RawLine::SortLine(text(alloc, name)?))
 }
 
-fn con(alloc: Global, name: &str, args: &[&str]) -> Result<RawLine, NoMemory> {
+fn sort_with(alloc: Global, name: &str, vars: u64, width: u64) -> Line {
+    Ok(RawLine::SortLine2 {
+        name: text(alloc, name)?,
+        vars,
+        width,
+    })
+}
+
+fn con(alloc: Global, name: &str, args: &[&str]) -> Line {
     Ok(RawLine::ConLine {
         name: text(alloc, name)?,
         args: names(alloc, args)?,
     })
 }
 
-fn fun(alloc: Global, name: &str, args: &[&str], gives: &str) -> Result<RawLine, NoMemory> {
+fn con_with(alloc: Global, weight: u64, name: &str, args: &[&str]) -> Line {
+    Ok(RawLine::ConLine3 {
+        weight,
+        name: text(alloc, name)?,
+        args: names(alloc, args)?,
+    })
+}
+
+fn fun(alloc: Global, name: &str, args: &[&str], gives: &str) -> Line {
     Ok(RawLine::FunLine {
         name: text(alloc, name)?,
         args: names(alloc, args)?,
@@ -86,151 +99,156 @@ fn fun(alloc: Global, name: &str, args: &[&str], gives: &str) -> Result<RawLine,
     })
 }
 
-fn case(alloc: Global, con: &str, body: RawTerm) -> Result<RawLine, NoMemory> {
-    Ok(RawLine::CaseLine {
-        con: text(alloc, con)?,
-        body,
+fn fun_with(alloc: Global, weight: u64, name: &str, args: &[&str], gives: &str) -> Line {
+    Ok(RawLine::FunLine3 {
+        weight,
+        name: text(alloc, name)?,
+        args: names(alloc, args)?,
+        result: text(alloc, gives)?,
     })
 }
 
-fn add(lines: &mut Vec<RawLine>, line: RawLine) -> Result<(), NoMemory> {
-    match lines.push(line) {
-        Ok(()) => Ok(()),
+fn case(alloc: Global, con: &str, body: Term) -> Line {
+    Ok(RawLine::CaseLine {
+        con: text(alloc, con)?,
+        body: body?,
+    })
+}
+
+fn body(term: Term) -> Line {
+    Ok(RawLine::BodyLine(term?))
+}
+
+fn explore(alloc: Global, words: &[&str]) -> Line {
+    Ok(RawLine::Explore(names(alloc, words)?))
+}
+
+fn background(left: Term, right: Term) -> Line {
+    Ok(RawLine::Background {
+        left: left?,
+        right: right?,
+    })
+}
+
+fn no_values(alloc: Global, sort: &str) -> Line {
+    Ok(RawLine::Values {
+        sort: text(alloc, sort)?,
+        values: Seq::new(alloc),
+    })
+}
+
+/// The line of values with one value more.
+fn and(line: Line, value: Term) -> Line {
+    match line? {
+        RawLine::Values { sort, mut values } => {
+            values.push(value?)?;
+            Ok(RawLine::Values { sort, values })
+        }
+        other => Ok(other),
+    }
+}
+
+fn value(alloc: Global, sort: &str, value: Term) -> Line {
+    and(no_values(alloc, sort), value)
+}
+
+fn add(lines: Lines, line: Line) -> Lines {
+    let mut all = lines?;
+    match all.push(line?) {
+        Ok(()) => Ok(all),
         Err(_) => Err(NoMemory),
     }
 }
 
-/// Puts a line in the place of the one of this number, counted from 1.
-fn put(lines: &mut Vec<RawLine>, number: usize, line: RawLine) {
-    if 0 < number && number <= lines.len() {
-        lines[number - 1] = line;
+/// The lines with this one in the place of the one of this number, counted from 1.
+fn put(lines: Lines, number: usize, line: Line) -> Lines {
+    let mut all = lines?;
+    let new = line?;
+    if 0 < number && number <= all.len() {
+        all[number - 1] = new;
     }
+    Ok(all)
+}
+
+/// The lines with this one before the one of this number.
+fn put_before(lines: Lines, number: usize, line: Line) -> Lines {
+    let mut all = lines?;
+    let new = line?;
+    if 0 < number && number <= all.len() {
+        match all.insert(number - 1, new) {
+            Ok(()) => {}
+            Err(_) => return Err(NoMemory),
+        }
+    }
+    Ok(all)
+}
+
+/// The lines without the one of this number.
+fn take_out(lines: Lines, number: usize) -> Lines {
+    let mut all = lines?;
+    if 0 < number && number <= all.len() {
+        let _ = all.remove(number - 1);
+    }
+    Ok(all)
 }
 
 /// The body `S (plus @0 #1)`.
-fn plus_more(alloc: Global) -> Result<RawTerm, NoMemory> {
-    let inner = over_two(alloc, "plus", field(alloc, 0), param(alloc, 1))?;
+fn plus_more(alloc: Global) -> Term {
+    let inner = over_two(alloc, "plus", field(alloc, 0), param(alloc, 1));
     over(alloc, "S", inner)
 }
 
-/// Addition of natural numbers: lines 8 to 10 are the sort, 11 to 14 the function, 16 to 17 the pool.
-fn addition(alloc: Global) -> Result<Vec<RawLine>, NoMemory> {
-    let mut lines = Vec::new(alloc);
-    add(&mut lines, RawLine::Head)?;
-    add(&mut lines, RawLine::Vars(2))?;
-    add(&mut lines, RawLine::Size(3))?;
-    add(&mut lines, RawLine::Width(2))?;
-    add(&mut lines, RawLine::Budget(3))?;
-    add(&mut lines, RawLine::Pairs(20))?;
-    add(&mut lines, RawLine::PoolsGiven)?;
-    add(&mut lines, sort(alloc, "Nat")?)?;
-    add(&mut lines, con(alloc, "Z", &[])?)?;
-    add(&mut lines, con(alloc, "S", &["Nat"])?)?;
-    add(&mut lines, fun(alloc, "plus", &["Nat", "Nat"], "Nat")?)?;
-    add(&mut lines, RawLine::MatchLine(0))?;
-    add(&mut lines, case(alloc, "Z", param(alloc, 1))?)?;
-    add(&mut lines, case(alloc, "S", plus_more(alloc)?)?)?;
-    add(&mut lines, RawLine::Explore(names(alloc, &["plus"])?))?;
-    add(&mut lines, RawLine::Pool)?;
-    let mut values = Seq::new(alloc);
-    values.push(atom(alloc, "Z")?)?;
-    values.push(over(alloc, "S", atom(alloc, "Z")?)?)?;
-    add(
-        &mut lines,
-        RawLine::Values {
-            sort: text(alloc, "Nat")?,
-            values,
-        },
-    )?;
-    add(&mut lines, RawLine::End)?;
-    Ok(lines)
+fn settings(alloc: Global) -> Lines {
+    let lines = add(Ok(Vec::new(alloc)), Ok(RawLine::Head));
+    let lines = add(lines, Ok(RawLine::Vars(2)));
+    let lines = add(lines, Ok(RawLine::Size(3)));
+    let lines = add(lines, Ok(RawLine::Width(2)));
+    let lines = add(lines, Ok(RawLine::Budget(3)));
+    let lines = add(lines, Ok(RawLine::Pairs(20)));
+    add(lines, Ok(RawLine::PoolsGiven))
+}
+
+/// Addition of natural numbers: lines 8 to 10 are the sort, 11 to 14 the function, 15 the explored name, 16 and 17 the pool.
+fn addition(alloc: Global) -> Lines {
+    let lines = add(settings(alloc), sort(alloc, "Nat"));
+    let lines = add(lines, con(alloc, "Z", &[]));
+    let lines = add(lines, con(alloc, "S", &["Nat"]));
+    let lines = add(lines, fun(alloc, "plus", &["Nat", "Nat"], "Nat"));
+    let lines = add(lines, Ok(RawLine::MatchLine(0)));
+    let lines = add(lines, case(alloc, "Z", param(alloc, 1)));
+    let lines = add(lines, case(alloc, "S", plus_more(alloc)));
+    let lines = add(lines, explore(alloc, &["plus"]));
+    let lines = add(lines, Ok(RawLine::Pool));
+    let zero = value(alloc, "Nat", atom(alloc, "Z"));
+    let lines = add(lines, and(zero, over(alloc, "S", atom(alloc, "Z"))));
+    add(lines, Ok(RawLine::End))
+}
+
+/// Addition with a second sort `B` of one value `T`, in the lines 11 and 12; the pool is in the lines 18 to 20.
+fn two_sorts(alloc: Global) -> Lines {
+    let lines = put_before(addition(alloc), 11, con(alloc, "T", &[]));
+    let lines = put_before(lines, 11, sort(alloc, "B"));
+    let one = value(alloc, "B", atom(alloc, "T"));
+    put_before(lines, 20, and(one, atom(alloc, "T")))
+}
+
+fn answer(alloc: Global, lines: Lines) -> Result<(), TypeErr> {
+    let all = lines?;
+    check_lines(alloc, all.as_slice())
+}
+
+/// What is answered for addition with one line in the place of another.
+fn with(alloc: Global, number: usize, line: Line) -> Result<(), TypeErr> {
+    answer(alloc, put(addition(alloc), number, line))
+}
+
+/// What is answered for addition with one line more.
+fn more(alloc: Global, number: usize, line: Line) -> Result<(), TypeErr> {
+    answer(alloc, put_before(addition(alloc), number, line))
 }
 
 fn at(line: u64, kind: TypeKind) -> Result<(), TypeErr> {
     Err(TypeErr::At { line, kind })
-}
-
-/// What is answered for addition with one line in the place of another.
-fn with(alloc: Global, number: usize, line: RawLine) -> Result<Result<(), TypeErr>, NoMemory> {
-    let mut lines = addition(alloc)?;
-    put(&mut lines, number, line);
-    Ok(check_lines(alloc, lines.as_slice()))
-}
-
-#[test]
-fn addition_shows_no_fault(rt: HostRuntime) -> Result<(), Fail> {
-    let lines = addition(rt.alloc())?;
-    assert_eq!(rt; check_lines(rt.alloc(), lines.as_slice()), Ok(()));
-    Ok(())
-}
-
-#[test]
-fn one_line_is_wrong(rt: HostRuntime) -> Result<(), Fail> {
-    let alloc = rt.alloc();
-    let line = fun(alloc, "plus", &["Nat", "Nut"], "Nat")?;
-    assert_eq!(rt; with(alloc, 11, line)?, at(11, TypeKind::UnknownSort));
-    let inner = over_two(alloc, "pluz", field(alloc, 0), param(alloc, 1))?;
-    let line = case(alloc, "S", over(alloc, "S", inner)?)?;
-    assert_eq!(rt; with(alloc, 14, line)?, at(14, TypeKind::UnknownName));
-    let line = con(alloc, "Z", &["Nat"])?;
-    assert_eq!(rt; with(alloc, 10, line)?, at(10, TypeKind::NameTwice));
-    let inner = over(alloc, "plus", field(alloc, 0))?;
-    let line = case(alloc, "S", over(alloc, "S", inner)?)?;
-    assert_eq!(rt; with(alloc, 14, line)?, at(14, TypeKind::Arity));
-    let line = con(alloc, "Z", &["Nat"])?;
-    assert_eq!(rt; with(alloc, 9, line)?, at(8, TypeKind::EmptySort));
-    assert_eq!(rt;
-        with(alloc, 4, RawLine::Width(0))?,
-        at(4, TypeKind::SettingRange)
-    );
-    Ok(())
-}
-
-/// Puts a line before the one of this number, counted from 1.
-fn put_before(lines: &mut Vec<RawLine>, number: usize, line: RawLine) -> Result<(), NoMemory> {
-    if 0 < number && number <= lines.len() {
-        match lines.insert(number - 1, line) {
-            Ok(()) => Ok(()),
-            Err(_) => Err(NoMemory),
-        }
-    } else {
-        add(lines, line)
-    }
-}
-
-/// Takes the line of this number out.
-fn take_out(lines: &mut Vec<RawLine>, number: usize) {
-    if 0 < number && number <= lines.len() {
-        let _ = lines.remove(number - 1);
-    }
-}
-
-/// What is answered for addition with one line more, before the one of this number.
-fn more(alloc: Global, number: usize, line: RawLine) -> Result<Result<(), TypeErr>, NoMemory> {
-    let mut lines = addition(alloc)?;
-    put_before(&mut lines, number, line)?;
-    Ok(check_lines(alloc, lines.as_slice()))
-}
-
-/// What is answered for addition with this term over the successor's fields in its second case.
-fn second(alloc: Global, body: RawTerm) -> Result<Result<(), TypeErr>, NoMemory> {
-    with(alloc, 14, case(alloc, "S", body)?)
-}
-
-/// Addition with a second sort of one value, `T`, in the lines 11 and 12, and its pool's values at the end.
-fn two_sorts(alloc: Global) -> Result<Vec<RawLine>, NoMemory> {
-    let mut lines = addition(alloc)?;
-    put_before(&mut lines, 11, con(alloc, "T", &[])?)?;
-    put_before(&mut lines, 11, sort(alloc, "B")?)?;
-    let mut values = Seq::new(alloc);
-    values.push(atom(alloc, "T")?)?;
-    values.push(atom(alloc, "T")?)?;
-    let line = RawLine::Values {
-        sort: text(alloc, "B")?,
-        values,
-    };
-    put_before(&mut lines, 20, line)?;
-    Ok(lines)
 }
 
 fn mismatch(wanted: u32, found: u32) -> TypeKind {
@@ -240,433 +258,377 @@ fn mismatch(wanted: u32, found: u32) -> TypeKind {
     }
 }
 
-#[test]
-fn settings_have_ranges(rt: HostRuntime) -> Result<(), Fail> {
-    let alloc = rt.alloc();
-    assert_eq!(rt;
-        with(alloc, 2, RawLine::Vars(9))?,
-        at(2, TypeKind::SettingRange)
-    );
-    assert_eq!(rt;
-        with(alloc, 3, RawLine::Size(33))?,
-        at(3, TypeKind::SettingRange)
-    );
-    assert_eq!(rt;
-        with(alloc, 4, RawLine::Width(17))?,
-        at(4, TypeKind::SettingRange)
-    );
-    assert_eq!(rt;
-        with(alloc, 5, RawLine::Budget(0))?,
-        at(5, TypeKind::SettingRange)
-    );
-    assert_eq!(rt;
-        with(alloc, 6, RawLine::Pairs(4097))?,
-        at(6, TypeKind::SettingRange)
-    );
-    Ok(())
-}
-
-fn seeded(alloc: Global, height: u64, count: u64) -> Result<Vec<RawLine>, NoMemory> {
-    let mut lines = Vec::new(alloc);
-    add(&mut lines, RawLine::Head2)?;
+/// Two sorts, the first of which has no value lower than 2.
+fn seeded(alloc: Global, height: u64, count: u64) -> Lines {
     let line = RawLine::PoolsSeed {
         seed: 7,
         height,
         count,
     };
-    add(&mut lines, line)?;
-    add(
-        &mut lines,
-        RawLine::SortLine2 {
-            name: text(alloc, "A")?,
-            vars: 1,
-            width: 1,
-        },
-    )?;
-    add(&mut lines, con(alloc, "P", &["B"])?)?;
-    add(
-        &mut lines,
-        RawLine::SortLine2 {
-            name: text(alloc, "B")?,
-            vars: 1,
-            width: 1,
-        },
-    )?;
-    add(&mut lines, con(alloc, "Q", &[])?)?;
-    add(&mut lines, RawLine::Explore(names(alloc, &["P"])?))?;
-    add(&mut lines, RawLine::End)?;
-    Ok(lines)
+    let lines = add(Ok(Vec::new(alloc)), Ok(line));
+    let lines = add(lines, sort_with(alloc, "A", 1, 1));
+    let lines = add(lines, con(alloc, "P", &["B"]));
+    let lines = add(lines, sort_with(alloc, "B", 1, 1));
+    add(lines, con(alloc, "Q", &[]))
 }
 
 #[test]
-fn heights_reach_every_sort(rt: HostRuntime) -> Result<(), Fail> {
+fn addition_shows_no_fault(rt: HostRuntime) {
     let alloc = rt.alloc();
-    let low = seeded(alloc, 1, 1)?;
-    assert_eq!(rt;
-        check_lines(alloc, low.as_slice()),
-        at(2, TypeKind::SettingRange)
-    );
-    let high = seeded(alloc, 2, 1)?;
-    assert_eq!(rt; check_lines(alloc, high.as_slice()), Ok(()));
-    let many = seeded(alloc, 2, 17)?;
-    assert_eq!(rt;
-        check_lines(alloc, many.as_slice()),
-        at(2, TypeKind::SettingRange)
-    );
-    Ok(())
+    assert_eq!(rt; answer(alloc, addition(alloc)), Ok(()));
+    assert_eq!(rt; answer(alloc, two_sorts(alloc)), Ok(()));
 }
 
 #[test]
-fn sorts_and_symbols(rt: HostRuntime) -> Result<(), Fail> {
+fn settings_have_ranges(rt: HostRuntime) {
     let alloc = rt.alloc();
-    // a second sort of the name, whose one constructor needs a sort without values
-    let mut lines = addition(alloc)?;
-    put_before(&mut lines, 11, con(alloc, "R", &["X"])?)?;
-    put_before(&mut lines, 11, sort(alloc, "X")?)?;
-    put_before(&mut lines, 11, con(alloc, "Q", &["X"])?)?;
-    put_before(&mut lines, 11, sort(alloc, "Nat")?)?;
     assert_eq!(rt;
-        check_lines(alloc, lines.as_slice()),
-        at(11, TypeKind::NameTwice)
+        with(alloc, 2, Ok(RawLine::Vars(9))),
+        at(2, TypeKind::SettingRange)
     );
     assert_eq!(rt;
-        with(alloc, 10, con(alloc, "Z", &["Nut"])?)?,
+        with(alloc, 3, Ok(RawLine::Size(33))),
+        at(3, TypeKind::SettingRange)
+    );
+    assert_eq!(rt;
+        with(alloc, 4, Ok(RawLine::Width(0))),
+        at(4, TypeKind::SettingRange)
+    );
+}
+
+#[test]
+fn budget_and_pairs_have_ranges(rt: HostRuntime) {
+    let alloc = rt.alloc();
+    assert_eq!(rt;
+        with(alloc, 5, Ok(RawLine::Budget(0))),
+        at(5, TypeKind::SettingRange)
+    );
+    assert_eq!(rt;
+        with(alloc, 6, Ok(RawLine::Pairs(4097))),
+        at(6, TypeKind::SettingRange)
+    );
+}
+
+#[test]
+fn a_sort_has_a_name_of_its_own(rt: HostRuntime) {
+    let alloc = rt.alloc();
+    let lines = put_before(addition(alloc), 11, con(alloc, "R", &["X"]));
+    let lines = put_before(lines, 11, sort(alloc, "X"));
+    let lines = put_before(lines, 11, con(alloc, "Q", &["X"]));
+    let lines = put_before(lines, 11, sort(alloc, "Nat"));
+    assert_eq!(rt; answer(alloc, lines), at(11, TypeKind::NameTwice));
+}
+
+#[test]
+fn a_sort_has_a_value(rt: HostRuntime) {
+    let alloc = rt.alloc();
+    assert_eq!(rt;
+        with(alloc, 9, con(alloc, "Z", &["Nat"])),
+        at(8, TypeKind::EmptySort)
+    );
+    assert_eq!(rt;
+        answer(
+            alloc,
+            take_out(put(addition(alloc), 8, sort_with(alloc, "Nat", 9, 17)), 9)
+        ),
+        at(8, TypeKind::EmptySort)
+    );
+    assert_eq!(rt;
+        with(alloc, 8, sort_with(alloc, "Nat", 9, 17)),
+        at(8, TypeKind::SettingRange)
+    );
+}
+
+#[test]
+fn a_constructor(rt: HostRuntime) {
+    let alloc = rt.alloc();
+    assert_eq!(rt;
+        with(alloc, 10, con(alloc, "Z", &["Nut"])),
         at(10, TypeKind::NameTwice)
     );
     assert_eq!(rt;
-        with(alloc, 11, fun(alloc, "S", &["Nut"], "Nat")?)?,
-        at(11, TypeKind::NameTwice)
-    );
-    let line = RawLine::ConLine3 {
-        weight: 5,
-        name: text(alloc, "S")?,
-        args: names(alloc, &["Nut"])?,
-    };
-    assert_eq!(rt; with(alloc, 10, line)?, at(10, TypeKind::UnknownSort));
-    let line = RawLine::ConLine3 {
-        weight: 5,
-        name: text(alloc, "S")?,
-        args: names(alloc, &["Nat"])?,
-    };
-    assert_eq!(rt; with(alloc, 10, line)?, at(10, TypeKind::SettingRange));
-    let line = RawLine::SortLine2 {
-        name: text(alloc, "Nat")?,
-        vars: 9,
-        width: 1,
-    };
-    assert_eq!(rt; with(alloc, 8, line)?, at(8, TypeKind::SettingRange));
-    let mut lines = addition(alloc)?;
-    take_out(&mut lines, 9);
-    put(
-        &mut lines,
-        8,
-        RawLine::SortLine2 {
-            name: text(alloc, "Nat")?,
-            vars: 9,
-            width: 1,
-        },
+        with(alloc, 10, con_with(alloc, 5, "S", &["Nut"])),
+        at(10, TypeKind::UnknownSort)
     );
     assert_eq!(rt;
-        check_lines(alloc, lines.as_slice()),
-        at(8, TypeKind::EmptySort)
+        with(alloc, 10, con_with(alloc, 5, "S", &["Nat"])),
+        at(10, TypeKind::SettingRange)
     );
-    let line = RawLine::FunLine3 {
-        weight: 0,
-        name: text(alloc, "plus")?,
-        args: names(alloc, &["Nat", "Nat"])?,
-        result: text(alloc, "Nat")?,
-    };
-    assert_eq!(rt; with(alloc, 11, line)?, at(11, TypeKind::SettingRange));
-    Ok(())
 }
 
 #[test]
-fn cases(rt: HostRuntime) -> Result<(), Fail> {
+fn a_function(rt: HostRuntime) {
     let alloc = rt.alloc();
-    let mut lines = addition(alloc)?;
-    take_out(&mut lines, 13);
     assert_eq!(rt;
-        check_lines(alloc, lines.as_slice()),
+        with(alloc, 11, fun(alloc, "S", &["Nut"], "Nat")),
+        at(11, TypeKind::NameTwice)
+    );
+    assert_eq!(rt;
+        with(
+            alloc,
+            11,
+            fun_with(alloc, 0, "plus", &["Nat", "Nut"], "Nat")
+        ),
+        at(11, TypeKind::UnknownSort)
+    );
+    assert_eq!(rt;
+        with(
+            alloc,
+            11,
+            fun_with(alloc, 5, "plus", &["Nat", "Nat"], "Nat")
+        ),
+        at(11, TypeKind::SettingRange)
+    );
+}
+
+#[test]
+fn a_match(rt: HostRuntime) {
+    let alloc = rt.alloc();
+    assert_eq!(rt;
+        answer(alloc, take_out(addition(alloc), 13)),
         at(12, TypeKind::CaseMissing)
     );
-    put(&mut lines, 12, RawLine::MatchLine(2));
     assert_eq!(rt;
-        check_lines(alloc, lines.as_slice()),
+        answer(
+            alloc,
+            take_out(put(addition(alloc), 12, Ok(RawLine::MatchLine(2))), 13)
+        ),
         at(12, TypeKind::Arity)
     );
+}
+
+#[test]
+fn a_case(rt: HostRuntime) {
+    let alloc = rt.alloc();
     assert_eq!(rt;
-        more(alloc, 15, case(alloc, "pluz", param(alloc, 9))?)?,
+        more(alloc, 15, case(alloc, "pluz", param(alloc, 9))),
         at(15, TypeKind::UnknownName)
     );
     assert_eq!(rt;
-        more(alloc, 15, case(alloc, "plus", param(alloc, 9))?)?,
+        more(alloc, 15, case(alloc, "plus", param(alloc, 9))),
         at(15, mismatch(0, 0))
     );
     assert_eq!(rt;
-        more(alloc, 15, case(alloc, "Z", param(alloc, 9))?)?,
+        more(alloc, 15, case(alloc, "Z", param(alloc, 9))),
         at(15, TypeKind::CaseTwice)
     );
-    assert_eq!(rt;
-        more(alloc, 15, case(alloc, "Z", param(alloc, 1))?)?,
-        at(15, TypeKind::CaseTwice)
-    );
-    assert_eq!(rt;
-        with(alloc, 13, case(alloc, "Z", param(alloc, 2))?)?,
-        at(13, TypeKind::Arity)
-    );
-    // a function that is declared later is no name yet
-    let mut lines = addition(alloc)?;
-    put_before(&mut lines, 15, RawLine::BodyLine(param(alloc, 0)))?;
-    put_before(&mut lines, 15, fun(alloc, "late", &["Nat"], "Nat")?)?;
-    put_before(&mut lines, 15, case(alloc, "late", param(alloc, 9))?)?;
-    assert_eq!(rt;
-        check_lines(alloc, lines.as_slice()),
-        at(15, TypeKind::UnknownName)
-    );
-    put(&mut lines, 15, case(alloc, "S", param(alloc, 9))?);
-    put(&mut lines, 14, case(alloc, "S", atom(alloc, "late")?)?);
-    assert_eq!(rt;
-        check_lines(alloc, lines.as_slice()),
-        at(14, TypeKind::LaterCall)
-    );
-    Ok(())
 }
 
 #[test]
-fn bodies(rt: HostRuntime) -> Result<(), Fail> {
+fn a_later_function(rt: HostRuntime) {
     let alloc = rt.alloc();
-    let body = over_two(alloc, "plus", param(alloc, 0), atom(alloc, "nope")?)?;
-    assert_eq!(rt; second(alloc, body)?, at(14, TypeKind::NotSmaller));
-    let body = over_two(alloc, "plus", field(alloc, 9), atom(alloc, "nope")?)?;
-    assert_eq!(rt; second(alloc, body)?, at(14, TypeKind::Arity));
-    let body = over_two(alloc, "plus", field(alloc, 0), atom(alloc, "nope")?)?;
-    assert_eq!(rt; second(alloc, body)?, at(14, TypeKind::UnknownName));
-    // one body in place of the match, which calls itself
-    let mut lines = addition(alloc)?;
-    take_out(&mut lines, 14);
-    take_out(&mut lines, 13);
-    put(&mut lines, 12, RawLine::BodyLine(field(alloc, 0)));
+    let lines = put_before(addition(alloc), 15, body(param(alloc, 0)));
+    let lines = put_before(lines, 15, fun(alloc, "late", &["Nat"], "Nat"));
+    let lines = put_before(lines, 15, case(alloc, "late", param(alloc, 9)));
+    assert_eq!(rt; answer(alloc, lines), at(15, TypeKind::UnknownName));
+}
+
+#[test]
+fn a_later_call(rt: HostRuntime) {
+    let alloc = rt.alloc();
+    let lines = put_before(addition(alloc), 15, body(param(alloc, 0)));
+    let lines = put_before(lines, 15, fun(alloc, "late", &["Nat"], "Nat"));
+    let lines = put(lines, 14, case(alloc, "S", atom(alloc, "late")));
+    assert_eq!(rt; answer(alloc, lines), at(14, TypeKind::LaterCall));
+}
+
+#[test]
+fn a_body_in_a_case(rt: HostRuntime) {
+    let alloc = rt.alloc();
     assert_eq!(rt;
-        check_lines(alloc, lines.as_slice()),
-        at(12, TypeKind::Arity)
-    );
-    put(
-        &mut lines,
-        12,
-        RawLine::BodyLine(over_two(alloc, "plus", param(alloc, 0), param(alloc, 9))?),
+        with(
+            alloc,
+            14,
+            case(
+                alloc,
+                "S",
+                over_two(alloc, "plus", param(alloc, 0), atom(alloc, "nope"))
+            )
+        ),
+        at(14, TypeKind::NotSmaller)
     );
     assert_eq!(rt;
-        check_lines(alloc, lines.as_slice()),
+        with(
+            alloc,
+            14,
+            case(alloc, "S", over(alloc, "plus", atom(alloc, "nope")))
+        ),
+        at(14, TypeKind::Arity)
+    );
+    assert_eq!(rt;
+        with(
+            alloc,
+            14,
+            case(
+                alloc,
+                "S",
+                over_two(alloc, "pluz", param(alloc, 9), field(alloc, 9))
+            )
+        ),
+        at(14, TypeKind::UnknownName)
+    );
+}
+
+#[test]
+fn a_body_alone(rt: HostRuntime) {
+    let alloc = rt.alloc();
+    let lines = take_out(take_out(addition(alloc), 14), 13);
+    let call = over_two(alloc, "plus", param(alloc, 0), param(alloc, 9));
+    assert_eq!(rt;
+        answer(alloc, put(lines, 12, body(call))),
         at(12, TypeKind::NotSmaller)
     );
-    // a call of another sort's function
-    let mut lines = two_sorts(alloc)?;
-    put(
-        &mut lines,
-        16,
-        case(alloc, "S", over(alloc, "S", atom(alloc, "T")?)?)?,
-    );
-    assert_eq!(rt;
-        check_lines(alloc, lines.as_slice()),
-        at(16, mismatch(0, 1))
-    );
-    put(&mut lines, 16, case(alloc, "T", param(alloc, 9))?);
-    put_before(&mut lines, 17, case(alloc, "S", plus_more(alloc)?)?)?;
-    assert_eq!(rt;
-        check_lines(alloc, lines.as_slice()),
-        at(16, mismatch(0, 1))
-    );
-    Ok(())
 }
 
 #[test]
-fn explored_and_background(rt: HostRuntime) -> Result<(), Fail> {
+fn a_field_without_a_match(rt: HostRuntime) {
     let alloc = rt.alloc();
-    let line = RawLine::Explore(names(alloc, &["nope", "plus", "plus"])?);
-    assert_eq!(rt; with(alloc, 15, line)?, at(15, TypeKind::UnknownName));
-    let line = RawLine::Explore(names(alloc, &["plus", "plus", "nope"])?);
-    assert_eq!(rt; with(alloc, 15, line)?, at(15, TypeKind::NameTwice));
-    let line = RawLine::Background {
-        left: variable(alloc, "Nut", 9)?,
-        right: atom(alloc, "nope")?,
-    };
-    assert_eq!(rt; more(alloc, 16, line)?, at(16, TypeKind::UnknownSort));
-    let line = RawLine::Background {
-        left: variable(alloc, "Nat", 2)?,
-        right: atom(alloc, "nope")?,
-    };
-    assert_eq!(rt; more(alloc, 16, line)?, at(16, TypeKind::SettingRange));
-    let line = RawLine::Background {
-        left: variable(alloc, "Nat", 1)?,
-        right: atom(alloc, "S")?,
-    };
-    assert_eq!(rt; more(alloc, 16, line)?, at(16, TypeKind::Arity));
-    let mut lines = two_sorts(alloc)?;
-    let line = RawLine::Background {
-        left: atom(alloc, "Z")?,
-        right: atom(alloc, "T")?,
-    };
-    put_before(&mut lines, 18, line)?;
+    let lines = take_out(take_out(addition(alloc), 14), 13);
     assert_eq!(rt;
-        check_lines(alloc, lines.as_slice()),
+        answer(alloc, put(lines, 12, body(field(alloc, 0)))),
+        at(12, TypeKind::Arity)
+    );
+}
+
+#[test]
+fn sorts_of_terms(rt: HostRuntime) {
+    let alloc = rt.alloc();
+    assert_eq!(rt;
+        answer(
+            alloc,
+            put(
+                two_sorts(alloc),
+                16,
+                case(alloc, "S", over(alloc, "S", atom(alloc, "T")))
+            )
+        ),
+        at(16, mismatch(0, 1))
+    );
+    assert_eq!(rt;
+        answer(
+            alloc,
+            put_before(two_sorts(alloc), 17, case(alloc, "T", param(alloc, 9)))
+        ),
+        at(17, mismatch(0, 1))
+    );
+}
+
+#[test]
+fn explored_names(rt: HostRuntime) {
+    let alloc = rt.alloc();
+    assert_eq!(rt;
+        with(alloc, 15, explore(alloc, &["nope", "plus", "plus"])),
+        at(15, TypeKind::UnknownName)
+    );
+    assert_eq!(rt;
+        with(alloc, 15, explore(alloc, &["plus", "plus", "nope"])),
+        at(15, TypeKind::NameTwice)
+    );
+}
+
+#[test]
+fn a_background_equation(rt: HostRuntime) {
+    let alloc = rt.alloc();
+    assert_eq!(rt;
+        more(
+            alloc,
+            16,
+            background(variable(alloc, "Nut", 9), atom(alloc, "nope"))
+        ),
+        at(16, TypeKind::UnknownSort)
+    );
+    assert_eq!(rt;
+        more(
+            alloc,
+            16,
+            background(variable(alloc, "Nat", 2), atom(alloc, "nope"))
+        ),
+        at(16, TypeKind::SettingRange)
+    );
+    assert_eq!(rt;
+        more(
+            alloc,
+            16,
+            background(variable(alloc, "Nat", 1), atom(alloc, "S"))
+        ),
+        at(16, TypeKind::Arity)
+    );
+}
+
+#[test]
+fn two_sides_of_one_sort(rt: HostRuntime) {
+    let alloc = rt.alloc();
+    assert_eq!(rt;
+        answer(
+            alloc,
+            put_before(
+                two_sorts(alloc),
+                18,
+                background(atom(alloc, "Z"), atom(alloc, "T"))
+            )
+        ),
         at(18, mismatch(0, 1))
     );
-    let line = RawLine::Background {
-        left: over(alloc, "S", variable(alloc, "B", 2)?)?,
-        right: atom(alloc, "T")?,
-    };
-    put(&mut lines, 18, line);
     assert_eq!(rt;
-        check_lines(alloc, lines.as_slice()),
+        answer(
+            alloc,
+            put_before(
+                two_sorts(alloc),
+                18,
+                background(over(alloc, "S", variable(alloc, "B", 2)), atom(alloc, "T"))
+            )
+        ),
         at(18, TypeKind::SettingRange)
     );
-    Ok(())
-}
-
-fn one_value(alloc: Global, sort: &str, value: RawTerm) -> Result<RawLine, NoMemory> {
-    let mut values = Seq::new(alloc);
-    values.push(value)?;
-    Ok(RawLine::Values {
-        sort: text(alloc, sort)?,
-        values,
-    })
 }
 
 #[test]
-fn pools(rt: HostRuntime) -> Result<(), Fail> {
+fn a_pool(rt: HostRuntime) {
     let alloc = rt.alloc();
-    let mut lines = addition(alloc)?;
-    take_out(&mut lines, 17);
     assert_eq!(rt;
-        check_lines(alloc, lines.as_slice()),
+        answer(alloc, take_out(addition(alloc), 17)),
         at(16, TypeKind::Arity)
     );
     assert_eq!(rt;
-        with(alloc, 17, one_value(alloc, "Nut", atom(alloc, "nope")?)?)?,
+        with(alloc, 17, value(alloc, "Nut", atom(alloc, "nope"))),
         at(17, TypeKind::UnknownSort)
     );
     assert_eq!(rt;
-        with(alloc, 17, one_value(alloc, "Nat", atom(alloc, "nope")?)?)?,
+        with(alloc, 17, value(alloc, "Nat", atom(alloc, "nope"))),
         at(17, TypeKind::Arity)
     );
-    let mut values = Seq::new(alloc);
-    values.push(atom(alloc, "Z")?)?;
-    values.push(atom(alloc, "plus")?)?;
-    let line = RawLine::Values {
-        sort: text(alloc, "Nat")?,
-        values,
-    };
-    assert_eq!(rt; with(alloc, 17, line)?, at(17, TypeKind::UnknownName));
-    let mut lines = two_sorts(alloc)?;
-    assert_eq!(rt; check_lines(alloc, lines.as_slice()), Ok(()));
-    put(&mut lines, 19, one_value(alloc, "B", atom(alloc, "nope")?)?);
+}
+
+#[test]
+fn values_of_a_pool(rt: HostRuntime) {
+    let alloc = rt.alloc();
     assert_eq!(rt;
-        check_lines(alloc, lines.as_slice()),
+        with(
+            alloc,
+            17,
+            and(value(alloc, "Nat", atom(alloc, "Z")), atom(alloc, "plus"))
+        ),
+        at(17, TypeKind::UnknownName)
+    );
+    assert_eq!(rt;
+        answer(
+            alloc,
+            put(two_sorts(alloc), 19, value(alloc, "B", atom(alloc, "nope")))
+        ),
         at(19, mismatch(0, 1))
     );
-    Ok(())
 }
 
 #[test]
-fn weights_have_a_range(rt: HostRuntime) -> Result<(), Fail> {
+fn heights_reach_every_sort(rt: HostRuntime) {
     let alloc = rt.alloc();
-    let mut lines = Vec::new(alloc);
-    add(&mut lines, RawLine::Head3)?;
-    add(&mut lines, RawLine::Size(3))?;
-    add(&mut lines, RawLine::Budget(10))?;
-    add(&mut lines, RawLine::Pairs(20))?;
-    add(&mut lines, RawLine::PoolsGiven)?;
-    add(
-        &mut lines,
-        RawLine::SortLine2 {
-            name: text(alloc, "B")?,
-            vars: 1,
-            width: 2,
-        },
-    )?;
-    add(
-        &mut lines,
-        RawLine::ConLine3 {
-            weight: 1,
-            name: text(alloc, "F")?,
-            args: Seq::new(alloc),
-        },
-    )?;
-    add(
-        &mut lines,
-        RawLine::ConLine3 {
-            weight: 1,
-            name: text(alloc, "T")?,
-            args: Seq::new(alloc),
-        },
-    )?;
-    add(
-        &mut lines,
-        RawLine::FunLine3 {
-            weight: 5,
-            name: text(alloc, "not")?,
-            args: names(alloc, &["B"])?,
-            result: text(alloc, "B")?,
-        },
-    )?;
     assert_eq!(rt;
-        check_lines(alloc, lines.as_slice()),
-        at(9, TypeKind::SettingRange)
+        answer(alloc, seeded(alloc, 1, 1)),
+        at(1, TypeKind::SettingRange)
     );
-    Ok(())
-}
-
-/// A name for each number.
-fn numbered(alloc: Global, first: u8, number: u8) -> Result<Text, NoMemory> {
-    let mut name = Text::new(alloc);
-    name.push(first)?;
-    name.push(b'a' + number / 8)?;
-    name.push(b'a' + number % 8)?;
-    Ok(name)
-}
-
-#[test]
-fn there_are_few_sorts(rt: HostRuntime) -> Result<(), Fail> {
-    let alloc = rt.alloc();
-    let mut lines = Vec::new(alloc);
-    for number in 0..64u8 {
-        add(
-            &mut lines,
-            RawLine::SortLine(numbered(alloc, b'S', number)?),
-        )?;
-        let line = RawLine::ConLine {
-            name: numbered(alloc, b'C', number)?,
-            args: Seq::new(alloc),
-        };
-        add(&mut lines, line)?;
-    }
-    assert_eq!(rt; check_lines(alloc, lines.as_slice()), Ok(()));
-    // the 65th, which is the first once more, and has no value
-    add(&mut lines, RawLine::SortLine(numbered(alloc, b'S', 0)?))?;
+    assert_eq!(rt; answer(alloc, seeded(alloc, 2, 1)), Ok(()));
     assert_eq!(rt;
-        check_lines(alloc, lines.as_slice()),
-        at(129, TypeKind::SettingRange)
+        answer(alloc, seeded(alloc, 2, 17)),
+        at(1, TypeKind::SettingRange)
     );
-    Ok(())
-}
-
-#[test]
-fn there_are_few_pools(rt: HostRuntime) -> Result<(), Fail> {
-    let alloc = rt.alloc();
-    let mut lines = addition(alloc)?;
-    put(&mut lines, 4, RawLine::Width(1));
-    put(&mut lines, 17, one_value(alloc, "Nat", atom(alloc, "Z")?)?);
-    take_out(&mut lines, 18);
-    for _ in 0..15u8 {
-        add(&mut lines, RawLine::Pool)?;
-        add(&mut lines, one_value(alloc, "Nat", atom(alloc, "Z")?)?)?;
-    }
-    assert_eq!(rt; check_lines(alloc, lines.as_slice()), Ok(()));
-    // the 17th, which has no values either
-    add(&mut lines, RawLine::Pool)?;
-    assert_eq!(rt;
-        check_lines(alloc, lines.as_slice()),
-        at(48, TypeKind::SettingRange)
-    );
-    Ok(())
 }
