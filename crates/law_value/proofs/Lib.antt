@@ -1,0 +1,3 @@
+pub mod BankFacts
+pub mod CellFacts
+pub mod ReadFacts
