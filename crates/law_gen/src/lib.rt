@@ -1,0 +1,4 @@
+//! Pools of test values that the words of a random generator choose.
+#![tactic(auto)]
+
+mod choices;
