@@ -1,3 +1,4 @@
 pub mod Draws
 pub mod Sizes
 pub mod Choices
+pub mod Made

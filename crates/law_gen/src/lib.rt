@@ -2,3 +2,7 @@
 #![tactic(auto)]
 
 mod choices;
+mod draw;
+mod error;
+
+pub use error::GenErr;
