@@ -12,7 +12,9 @@ use Rattle.law_sig.specs.declared.parts.Settings.{Settings}
 use Rattle.law_sig.specs.declared.parts.SigParts.{SigParts}
 use Rattle.law_gen.specs.Draws.{Drawn, in_turn, value_drawn, values_drawn, sorts_of, pool_drawn, pools_drawn}
 use Rattle.law_gen.specs.Sizes.{AreSmall, HasLarge, IsFirstIn, IsFirst}
-use Rattle.law_gen.specs.Made.{WhereLarge}
+use Rattle.law_gen.specs.Made.{WhereLarge, WhereTooLarge}
+use Rattle.law_gen.specs.declared.error.GenErr.{GenErr}
+use Rattle.law_gen.specs.declared.error.GenErr.TheVariants as err
 use Rattle.law_gen.specs.declared.error.Stop.{Stop}
 use Rattle.law_gen.specs.declared.error.Stop.TheVariants as stop
 use Rattle.law_gen.proofs.ChoiceFacts.{at_place}
@@ -110,3 +112,7 @@ pools_shape parts well height count g =
 pub pools_count : (parts : SigParts) (height count : ℕ) (g : Lcg) → length (pools_drawn parts height count g).made ≡ count
 pools_count parts height count g =
     length_drawn (λ (number : ℕ). pool_drawn parts height) (first_of count (λ number. number)) g ∙ length_first count (λ number. number)
+
+pub too_large_on : (P Q : ℕ → SortId → Type 0) → ((p : ℕ) (s : SortId) → P p s → Q p s) → (e : GenErr) → WhereTooLarge P e → WhereTooLarge Q e
+too_large_on P Q f (err.ValueTooLarge pool sort) h = f pool sort h
+too_large_on P Q f err.NoMemory h = tt

@@ -4,8 +4,9 @@ ghost use Rattle.law_sig.specs.Trees.{node_count};
 ghost use Rattle.law_sig.specs.WellFormed.{IsDeclared, is_within_height};
 ghost use Rattle.law_sig.specs.declared.tree.SortId.{SortId};
 ghost use Rattle.law_value.specs.Values.{AreOf, trees_of, Grows};
-ghost use Rattle.law_gen.specs.Draws.{value_drawn, values_drawn, pool_drawn};
-ghost use Rattle.law_gen.specs.Sizes.{AreSmall, HasLarge, IsFirstIn};
+ghost use Rattle.law_pool.specs.Table.{AreHeld, pools_of};
+ghost use Rattle.law_gen.specs.Draws.{value_drawn, values_drawn, pool_drawn, pools_drawn, generator_of};
+ghost use Rattle.law_gen.specs.Sizes.{AreSmall, HasLarge, IsFirstIn, IsFirst};
 ghost use Rattle.law_gen.specs.Made.{IsReady, IsMade, AreMade, WhereLarge, WhereTooLarge};
 
 use super::error::{GenErr, Stop};
@@ -16,12 +17,14 @@ use rand_pcg::Lcg64Xsh32;
 use std::alloc::Global;
 
 /// The generator, and how many nodes the value at work may still have.
+#[derive(Drop)]
 pub struct Draws {
     pub rng: Lcg64Xsh32,
     pub room: u32,
 }
 
 /// What values are made by: a signature, and the constructors that may be chosen by height left and sort.
+#[derive(Drop)]
 pub struct Maker<'s> {
     pub alloc: Global,
     pub sig: &'s Sig,
@@ -103,5 +106,29 @@ impl<'s> Maker<'s> {
             };
         }
         Ok(sorts)
+    }
+
+    /// Pools from a seed, one after the other.
+    pub fn draw_pools(&self, bank: &mut ValueBank, seed: u64, height: u32, count: u32) -> Result<Seq<Seq<Seq<ValueId>>>, GenErr>
+        requires ready { IsReady self.now.sig.now height self.now.choices }
+        requires within { (sort : SortId) → IsDeclared self.now.sig.now sort → IsTrue (is_within_height self.now.sig.now height sort) }
+        ensures held { IfOk result (λ ids. AreHeld bank.new ids) }
+        ensures made { IfOk result (λ ids. pools_of bank.new ids ≡ (pools_drawn self.now.sig.now height count (generator_of seed)).made) }
+        ensures small { OnOk result (Each (Each AreSmall) (pools_drawn self.now.sig.now height count (generator_of seed)).made) }
+        ensures large { IfErr result (λ e. WhereTooLarge (IsFirst (pools_drawn self.now.sig.now height count (generator_of seed)).made) e) }
+        ensures grows { Grows bank.old bank.new }
+    {
+        let mut draws = Draws {
+            rng: Lcg64Xsh32::new(seed, 0),
+            room: 0,
+        };
+        let mut pools = Seq::new(self.alloc);
+        for number in 0..count {
+            let pool = self.draw_pool(&mut draws, bank, height, number)?;
+            let Ok(()) = pools.push(pool) else {
+                return Err(GenErr::NoMemory);
+            };
+        }
+        Ok(pools)
     }
 }

@@ -4,5 +4,7 @@
 mod choices;
 mod draw;
 mod error;
+mod make;
 
 pub use error::GenErr;
+pub use make::make_pools;
