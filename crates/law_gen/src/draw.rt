@@ -33,7 +33,13 @@ pub struct Maker<'s> {
 
 impl<'s> Maker<'s> {
     /// A value of a sort with a height left. Each word makes one node of it, so none is taken once there is no room.
-    fn draw_value(&self, draws: &mut Draws, bank: &mut ValueBank, height: u32, sort: SortId) -> Result<ValueId, Stop>
+    fn draw_value(
+        &self,
+        draws: &mut Draws,
+        bank: &mut ValueBank,
+        height: u32,
+        sort: SortId,
+    ) -> Result<ValueId, Stop>
         requires ready { IsReady self.now.sig.now height self.now.choices }
         requires declared { IsDeclared self.now.sig.now sort }
         requires within { IsTrue (is_within_height self.now.sig.now height sort) }
@@ -63,7 +69,13 @@ impl<'s> Maker<'s> {
     }
 
     /// As many values of a sort as its width.
-    fn draw_values(&self, draws: &mut Draws, bank: &mut ValueBank, height: u32, sort: SortId) -> Result<Seq<ValueId>, Stop>
+    fn draw_values(
+        &self,
+        draws: &mut Draws,
+        bank: &mut ValueBank,
+        height: u32,
+        sort: SortId,
+    ) -> Result<Seq<ValueId>, Stop>
         requires ready { IsReady self.now.sig.now height self.now.choices }
         requires declared { IsDeclared self.now.sig.now sort }
         requires within { IsTrue (is_within_height self.now.sig.now height sort) }
@@ -85,7 +97,13 @@ impl<'s> Maker<'s> {
     }
 
     /// A pool: for each sort its values. The number of the pool is told where a value is too large.
-    pub fn draw_pool(&self, draws: &mut Draws, bank: &mut ValueBank, height: u32, pool: u32) -> Result<Seq<Seq<ValueId>>, GenErr>
+    pub fn draw_pool(
+        &self,
+        draws: &mut Draws,
+        bank: &mut ValueBank,
+        height: u32,
+        pool: u32,
+    ) -> Result<Seq<Seq<ValueId>>, GenErr>
         requires ready { IsReady self.now.sig.now height self.now.choices }
         requires within { (sort : SortId) → IsDeclared self.now.sig.now sort → IsTrue (is_within_height self.now.sig.now height sort) }
         ensures made { IfOk result (λ ids. AreMade (pool_drawn self.now.sig.now height draws.old.rng) (Each (AreOf bank.new)) (map (trees_of bank.new)) ids draws.new.rng) }
@@ -109,7 +127,13 @@ impl<'s> Maker<'s> {
     }
 
     /// Pools from a seed, one after the other.
-    pub fn draw_pools(&self, bank: &mut ValueBank, seed: u64, height: u32, count: u32) -> Result<Seq<Seq<Seq<ValueId>>>, GenErr>
+    pub fn draw_pools(
+        &self,
+        bank: &mut ValueBank,
+        seed: u64,
+        height: u32,
+        count: u32,
+    ) -> Result<Seq<Seq<Seq<ValueId>>>, GenErr>
         requires ready { IsReady self.now.sig.now height self.now.choices }
         requires within { (sort : SortId) → IsDeclared self.now.sig.now sort → IsTrue (is_within_height self.now.sig.now height sort) }
         ensures held { IfOk result (λ ids. AreHeld bank.new ids) }

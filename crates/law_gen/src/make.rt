@@ -25,7 +25,12 @@ pub fn make_pools(alloc: Global, sig: &Sig, bank: &mut ValueBank) -> Result<Pool
     ensures large { IfErr result (λ e. WhereTooLarge (IsFirst (seeded_pools sig.now)) e) }
     ensures grows { Grows bank.old bank.new }
 {
-    let PoolRule::Seeded { seed, height, count } = &sig.settings().pools else {
+    let PoolRule::Seeded {
+        seed,
+        height,
+        count,
+    } = &sig.settings().pools
+    else {
         unreachable!()
     };
     let Ok(choices) = choices_up_to(alloc, sig, *height) else {

@@ -16,5 +16,9 @@ pub build-requires-clause-pools : goal.build-requires-clause-pools
 build-requires-clause-pools c =
     let seeded : IsSeeded c.args.sig.now c.in-Seeded.seed c.in-Seeded.height c.in-Seeded.count =
     subst (IsPoolRule c.args.sig.now) (ap (λ (s : Settings). s.pools) (sym c.settings.ensures.settings) ∙ c.in-Seeded.is) c.settings.ensures.well_formed.settings.pools in
-    omega (arith, ids_count c.draw_pools.new.bank c.in_ok-values.values (pools_drawn c.args.sig.now c.in-Seeded.height c.in-Seeded.count (generator_of c.in-Seeded.seed)).made c.in_ok-values.ensures.made,
-    pools_count c.args.sig.now c.in-Seeded.height c.in-Seeded.count (generator_of c.in-Seeded.seed), seeded.count_range.1)
+    omega (
+      arith,
+      ids_count c.draw_pools.new.bank c.in_ok-values.values (pools_drawn c.args.sig.now c.in-Seeded.height c.in-Seeded.count (generator_of c.in-Seeded.seed)).made c.in_ok-values.ensures.made,
+      pools_count c.args.sig.now c.in-Seeded.height c.in-Seeded.count (generator_of c.in-Seeded.seed),
+      seeded.count_range.1,
+    )

@@ -50,10 +50,16 @@ draw_value-requires t c =
     c.requires.ready.well_formed c.requires.within (looked_up c.args.self.now.sig.now c.args.height c.args.sort c.args.self.now.choices c.as_slice.result.now c.index-as_slice-height.result c.as_slice-level.result.now
     c.index-level-sort.result c.as_slice-choices.result.now
     c.requires.ready c.requires.declared c.as_slice.ensures c.index-as_slice-height.is c.as_slice-level.ensures c.index-level-sort.is c.as_slice-choices.ensures)
-    (ap (λ (p : ℕ × Lcg). p.0) c.next_word-word.ensures) (ap (λ (p : ℕ × Lcg). p.1) c.next_word-word.ensures) c.args_of-field_sort-items.ensures in
-    ((omega (arith, d.positive, c.if-draws-eq0.false)), (lower c.args.self.now.sig.now c.args.height c.args.self.now.choices c.requires.ready,
-    (sort_declared c.args.self.now.sig.now c.args_of-field_sort-items.result.now c.loop-field_sort.field_sort-index (record { 0 = 0 }) d.declared c.loop-field_sort-test.true,
-    each_index (λ s. is_within_height c.args.self.now.sig.now (c.args.height - 1) s ≡ true) c.args_of-field_sort-items.result.now c.loop-field_sort.field_sort-index (record { 0 = 0 }) d.within c.loop-field_sort-test.true)))
+    (ap (λ (p : ℕ × Lcg). p.0) c.next_word-word.ensures) (ap (λ (p : ℕ × Lcg). p.1) c.next_word-word.ensures) c.args_of-field_sort-items.ensures in (
+      (omega (arith, d.positive, c.if-draws-eq0.false)),
+      (
+        lower c.args.self.now.sig.now c.args.height c.args.self.now.choices c.requires.ready,
+        (
+          sort_declared c.args.self.now.sig.now c.args_of-field_sort-items.result.now c.loop-field_sort.field_sort-index (record { 0 = 0 }) d.declared c.loop-field_sort-test.true,
+          each_index (λ s. is_within_height c.args.self.now.sig.now (c.args.height - 1) s ≡ true) c.args_of-field_sort-items.result.now c.loop-field_sort.field_sort-index (record { 0 = 0 }) d.within c.loop-field_sort-test.true,
+        ),
+      ),
+    )
 
 pub returns-in_err-field-clause-large : goal.returns-in_err-field-clause-large
 returns-in_err-field-clause-large t c =

@@ -16,10 +16,12 @@ id_of n = record { 0 = n }
 pub returns-in-Err-TooLarge-clause-large : goal.returns-in-Err-TooLarge-clause-large
 returns-in-Err-TooLarge-clause-large c =
     let below : c.loop-at.at < length c.args.self.now.sig.now.sort_names = omega (arith, c.sorts-at-end.ensures) in
-    let here = going_here AreOf trees_of (values_drawn c.args.self.now.sig.now c.args.height) (pool_drawn c.args.self.now.sig.now c.args.height c.args.draws.now.rng) c.args.bank.now c.loop-at.bank c.loop-at.sorts (id_of c.loop-at.at) (drop c.loop-at.at (sorts_of c.args.self.now.sig.now)) (drop (c.loop-at.at + 1) (sorts_of c.args.self.now.sig.now)) c.loop-at.draws.rng c.loop-at.invariant.going (first_from (length c.args.self.now.sig.now.sort_names) id_of c.loop-at.at below) in
-    (refl, first_in (pool_drawn c.args.self.now.sig.now c.args.height c.args.draws.now.rng).made (map (trees_of c.loop-at.bank) c.loop-at.sorts) _ (values_drawn c.args.self.now.sig.now c.args.height (id_of c.loop-at.at) c.loop-at.draws.rng).made (id_of c.loop-at.at) here
-    (length_map (trees_of c.loop-at.bank) c.loop-at.sorts ∙ c.loop-at.invariant.count)
-    (large_at (HasLarge (values_drawn c.args.self.now.sig.now c.args.height (id_of c.loop-at.at) c.loop-at.draws.rng).made) c.in-Err-TooLarge.field-0 c.in-Err-TooLarge.field-0-is c.in-Err-TooLarge.ensures.large) c.loop-at.invariant.small)
+    let here = going_here AreOf trees_of (values_drawn c.args.self.now.sig.now c.args.height) (pool_drawn c.args.self.now.sig.now c.args.height c.args.draws.now.rng) c.args.bank.now c.loop-at.bank c.loop-at.sorts (id_of c.loop-at.at) (drop c.loop-at.at (sorts_of c.args.self.now.sig.now)) (drop (c.loop-at.at + 1) (sorts_of c.args.self.now.sig.now)) c.loop-at.draws.rng c.loop-at.invariant.going (first_from (length c.args.self.now.sig.now.sort_names) id_of c.loop-at.at below) in (
+      refl,
+      first_in (pool_drawn c.args.self.now.sig.now c.args.height c.args.draws.now.rng).made (map (trees_of c.loop-at.bank) c.loop-at.sorts) _ (values_drawn c.args.self.now.sig.now c.args.height (id_of c.loop-at.at) c.loop-at.draws.rng).made (id_of c.loop-at.at) here
+          (length_map (trees_of c.loop-at.bank) c.loop-at.sorts ∙ c.loop-at.invariant.count)
+          (large_at (HasLarge (values_drawn c.args.self.now.sig.now c.args.height (id_of c.loop-at.at) c.loop-at.draws.rng).made) c.in-Err-TooLarge.field-0 c.in-Err-TooLarge.field-0-is c.in-Err-TooLarge.ensures.large) c.loop-at.invariant.small,
+    )
 
 pub loop-at-preserved : goal.loop-at-preserved
 loop-at-preserved c =
