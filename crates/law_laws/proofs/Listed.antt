@@ -1,13 +1,13 @@
 -- The terms of the universe as a list, by weight and then by sort, which is as long as they are counted.
 use Rattle.std.proofs.Common.{◌≡◌, ◌≢◌, ℕ, zero, suc, ◌+◌, ◌-◌, ◌*◌, ◌<◌, ◌≤◌, ◌⊎◌, inl, inr, Bool, true, false, ◌&&◌, eqb-true, eq-eqb, ltb-true, lt-ltb, nat_lt, nat_eq, if◌then◌else◌, IsTrue, Option, Some, None, List, [], ◌∷◌, ◌++◌, map, length, slice_index_or, sym, refl, ap, ap₂, ◌∙◌, subst, arith}
 use Rattle.std.specs.List.{list_all}
-use Rattle.law_sig.specs.Lists.{In, Each, Rising, AreDistinct, total}
+use Rattle.law_sig.specs.Lists.{In, Each, AreDistinct, total}
 use Rattle.law_sig.specs.Lists.In.{here, there}
 use Rattle.law_sig.specs.Trees.{joined}
 use Rattle.law_sig.specs.Signature.{is_declared_sort, symbol_at, args_of, result_of, vars_at, weight_at, sort_of}
-use Rattle.law_sig.specs.Tests.{weight, is_explored, is_bounded, InU, first_of}
+use Rattle.law_sig.specs.Tests.{weight, is_explored, is_bounded, first_of}
 use Rattle.law_sig.specs.Counts.{count_at, lists_at, applications_of, terms_at, next_row, rows_up_to, term_count}
-use Rattle.law_sig.specs.WellFormed.{IsBetween, IsWellFormed}
+use Rattle.law_sig.specs.WellFormed.{IsWellFormed}
 use Rattle.law_sig.specs.declared.tree.SortId.{SortId}
 use Rattle.law_sig.specs.declared.tree.SymId.{SymId}
 use Rattle.law_sig.specs.declared.tree.Tree.{Tree}
@@ -17,7 +17,7 @@ use Rattle.law_sig.specs.declared.tree.Tree.TheVariants.{Var, App, outs-App}
 use Rattle.law_sig.specs.declared.tree.Tree.TheViews.{out-Tree}
 use Rattle.law_sig.specs.declared.parts.Sym.{Sym}
 use Rattle.law_sig.specs.declared.parts.SigParts.{SigParts}
-use Rattle.law_laws.specs.Counting.{IsInUniverse, IsListing, CountIsOfTerms, ListingsAreCounted}
+use Rattle.law_laws.specs.Counting.{IsInUniverse, CountIsOfTerms, ListingsAreCounted}
 use Rattle.law_laws.proofs.TreeFacts.{same_app, same_var, var_no_app, weight-Var, weight-App, bounded-Var, bounded-App, tree_cases}
 use Rattle.law_laws.proofs.ListFacts.{each_map, in_left, in_right, in_map, each_of, of_each, in_none, in_rest}
 use Rattle.law_laws.proofs.Sorts.{HaveSorts, same_sort_is, same_sort_itself, sorted_app, app_sorted, sorted_var, var_sorted, both_true}

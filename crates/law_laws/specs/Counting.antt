@@ -1,5 +1,5 @@
 -- The number of terms of the universe.
-use Rattle.std.specs.Prelude.{◌≡◌, ℕ, List, length}
+use Rattle.std.specs.Prelude.{◌≡◌, List, length}
 use Rattle.law_sig.specs.Lists.{In, Each, AreDistinct}
 use Rattle.law_sig.specs.Tests.{InU}
 use Rattle.law_sig.specs.Counts.{term_count}
