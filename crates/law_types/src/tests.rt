@@ -632,3 +632,59 @@ fn heights_reach_every_sort(rt: HostRuntime) {
         at(1, TypeKind::SettingRange)
     );
 }
+
+/// A name for each number.
+fn numbered(alloc: Global, first: u8, number: u8) -> Result<Text, NoMemory> {
+    let mut name = Text::new(alloc);
+    name.push(first)?;
+    name.push(b'a' + number / 8)?;
+    name.push(b'a' + number % 8)?;
+    Ok(name)
+}
+
+/// The lines with a sort of one value more.
+fn add_sort(alloc: Global, lines: Lines, number: u8) -> Lines {
+    let lines = add(lines, Ok(RawLine::SortLine(numbered(alloc, b'S', number)?)));
+    let line = RawLine::ConLine {
+        name: numbered(alloc, b'C', number)?,
+        args: Seq::new(alloc),
+    };
+    add(lines, Ok(line))
+}
+
+fn many_sorts(alloc: Global, count: u8) -> Lines {
+    let mut lines = Ok(Vec::new(alloc));
+    for number in 0..count {
+        lines = add_sort(alloc, lines, number);
+    }
+    lines
+}
+
+#[test]
+fn there_are_few_sorts(rt: HostRuntime) {
+    let alloc = rt.alloc();
+    assert_eq!(rt; answer(alloc, many_sorts(alloc, 64)), Ok(()));
+    // the first one's name once more, and no value
+    let lines = add(many_sorts(alloc, 64), sort(alloc, "Saa"));
+    assert_eq!(rt; answer(alloc, lines), at(129, TypeKind::SettingRange));
+}
+
+/// Addition with so many pools, up to the last one's values.
+fn many_pools(alloc: Global, count: u8) -> Lines {
+    let mut lines = put(addition(alloc), 4, Ok(RawLine::Width(1)));
+    lines = take_out(take_out(take_out(lines, 18), 17), 16);
+    for _ in 0..count {
+        lines = add(lines, Ok(RawLine::Pool));
+        lines = add(lines, value(alloc, "Nat", atom(alloc, "Z")));
+    }
+    lines
+}
+
+#[test]
+fn there_are_few_pools(rt: HostRuntime) {
+    let alloc = rt.alloc();
+    assert_eq!(rt; answer(alloc, many_pools(alloc, 16)), Ok(()));
+    // one more, without values
+    let lines = add(many_pools(alloc, 16), Ok(RawLine::Pool));
+    assert_eq!(rt; answer(alloc, lines), at(48, TypeKind::SettingRange));
+}
