@@ -1,8 +1,8 @@
 -- A list without repetitions whose items all stand in a list that is no longer has every item of that list.
-use Rattle.std.proofs.Common.{◌≡◌, ◌≢◌, ℕ, suc, ◌+◌, ◌≤◌, List, [], ◌∷◌, ◌++◌, ◌⊎◌, length, inl, inr, arith, refl, sym, ap, ◌∙◌, subst, length-append}
-use Rattle.law_sig.specs.Lists.{In, Each, AreDistinct}
+use Rattle.std.proofs.Common.{◌≡◌, ◌≢◌, suc, ◌+◌, ◌≤◌, List, [], ◌∷◌, ◌++◌, ◌⊎◌, length, inl, inr, arith, refl, sym, ap, ◌∙◌, subst, length-append}
+use Rattle.law_sig.specs.Lists.{In, AreDistinct}
 use Rattle.law_sig.specs.Lists.In.{here, there}
-use Rattle.law_laws.proofs.ListFacts.{of_each, in_left, in_right, in_split, in_none, in_rest}
+use Rattle.law_laws.proofs.ListFacts.{of_each, in_left, in_right, in_split, in_rest}
 
 -- where an item stands in a list
 pub record Place {A : Type 0} (x : A) (xs : List A) : Type 0 where

@@ -1,5 +1,5 @@
 -- The lines that state a signature of the first profile are plain.
-use Rattle.std.proofs.Common.{◌≡◌, ◌≢◌, ℕ, zero, suc, ◌+◌, ◌≤◌, ◌<◌, List, [], ◌∷◌, ◌++◌, ◌⊎◌, length, map, take, Option, Some, None, unwrap_or, inl, inr, arith, refl, sym, ap, ◌∙◌, subst, Bool, true, false, ◌&&◌, IsTrue, if◌then◌else◌}
+use Rattle.std.proofs.Common.{◌≡◌, ◌≢◌, ℕ, zero, suc, ◌+◌, ◌≤◌, ◌<◌, List, [], ◌∷◌, ◌++◌, length, map, take, Option, Some, None, unwrap_or, arith, refl, sym, ap, ◌∙◌, subst, Bool, true, false, ◌&&◌, IsTrue, if◌then◌else◌}
 use Rattle.std.specs.Prelude.{option_map, slice_get, slice_index_or}
 use Rattle.std.specs.List.{AllByRecursion, list_all}
 use Rattle.std.proofs.lemmas.Bool.{true≢false}
@@ -7,7 +7,6 @@ use Rattle.law_sig.specs.Lists.{In, Each, AreDistinct}
 use Rattle.law_sig.specs.Lists.In.{here, there}
 use Rattle.law_sig.specs.Trees.{joined}
 use Rattle.law_sig.specs.Signature.{symbol_at, args_of, constructors, constructors_from, makes_sort}
-use Rattle.law_sig.specs.Tests.{first_of}
 use Rattle.law_sig.specs.declared.tree.SortId.{SortId}
 use Rattle.law_sig.specs.declared.tree.SymId.{SymId}
 use Rattle.law_sig.specs.declared.tree.Tree.{Tree}
@@ -21,13 +20,13 @@ use Rattle.law_sig.specs.declared.parts.Sym.TheVariants as sym
 use Rattle.law_sig.specs.declared.parts.SigParts.{SigParts}
 use Rattle.law_read.specs.declared.raw.RawHead.TheVariants.{Name, Param}
 use Rattle.law_read.specs.declared.raw.RawTerm.{RawTerm}
-use Rattle.law_read.specs.declared.raw.RawTerm.TheViews.{out-RawTerm, roll-RawTerm, out-roll-RawTerm}
+use Rattle.law_read.specs.declared.raw.RawTerm.TheViews.{out-roll-RawTerm}
 use Rattle.law_read.specs.declared.raw.RawLine.{RawLine}
 use Rattle.law_read.specs.declared.raw.RawLine.TheVariants as line
 use Rattle.law_types.specs.Naming.{sort_name, symbol_name, raw_term, name_step, named_term, named_body, name_body_step}
-use Rattle.law_types.specs.Typed.{IsTypedAs, Version, settings_lines, pools_line, given_lines, values_lines, background_line, FitsVersion, AreCaseLines, AreRules, AreFunLines, arg_names, sort_block, sort_ids, con_line, fun_line}
+use Rattle.law_types.specs.Typed.{Version, settings_lines, pools_line, given_lines, values_lines, background_line, AreCaseLines, AreRules, AreFunLines, arg_names, sort_block, sort_ids, con_line}
 use Rattle.law_types.specs.Typed.Version.{first, second, third}
-use Rattle.law_sig.specs.WellFormed.{IsWellFormed, AreCases, FitsPlace, IsValueOf, IsWritable, IsBody, IsPool, IsPoolFrom, AreGiven, IsPoolRule, is_constructor, value_step}
+use Rattle.law_sig.specs.WellFormed.{IsWellFormed, AreCases, FitsPlace, IsValueOf, IsWritable, IsBody, IsPoolFrom, AreGiven, IsPoolRule, is_constructor, value_step}
 use Rattle.law_sig.specs.declared.parts.PoolRule.{PoolRule}
 use Rattle.law_sig.specs.declared.parts.PoolRule.TheVariants as rule
 use Rattle.law_sig.specs.Trees.{node_count, depth}

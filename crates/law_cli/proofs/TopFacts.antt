@@ -1,7 +1,9 @@
 -- Facts for the top call: one word, and what the input was.
-use Rattle.std.proofs.Common.{◌≡◌, ℕ, ◌<◌, ◌≤◌, List, [], ◌∷◌, ◌++◌, length, Option, Some, None, slice_index_or, arith, sym, ap, ◌∙◌, subst, refl}
-use Rattle.std.specs.Io.KnownBytes.{Consumes, IsAtEnd}
-use Rattle.law_cli.specs.Reading.{WasRead, IsLonger}
+use Rattle.std.proofs.Common.{◌≡◌, ℕ, suc, ◌+◌, ◌<◌, ◌≤◌, List, [], ◌∷◌, ◌++◌, length, take, Option, Some, None, slice_index_or, arith, sym, ap, ◌∙◌, subst, refl, length-append, Bool, true, false, if◌then◌else◌}
+use Rattle.law_cli.specs.Reading.{WasRead, GaveAtMost, GaveTooMany}
+use Rattle.std.proofs.lemmas.List.{length-take}
+use Rattle.std.specs.Io.KnownBytes.{Consumes}
+use Rattle.law_io.proofs.LeftFacts.{Consumes-trans}
 use Rattle.law_cli.specs.Small.{IsSmall}
 use Rattle.law_cli.specs.Promise.{IsNotSmall}
 
@@ -25,3 +27,25 @@ not_small (Some xs) (Some ys) bytes most read not =
 -- one item is the other where the lists of each are
 pub same_head : (x y : List ℕ) → ◌≡◌ {A = List (List ℕ)} (x ∷ []) (y ∷ []) → x ≡ y
 same_head x y e = cc
+
+-- what was read, and what one more call gave
+pub gave_at_most : (before middle now : Option (List ℕ)) (xs got : List ℕ) (count length_xs most : ℕ) → Consumes before middle xs → Consumes middle now (take count got)
+    → length_xs ≡ length xs → length_xs + count ≤ most → GaveAtMost before now most
+gave_at_most before middle now xs got count length_xs most had more is few = record {
+  bytes = xs ++ take count got;
+  consumed = Consumes-trans before middle now xs (take count got) had more;
+  count = omega (arith, length-append xs (take count got), length-take count got);
+}
+
+pub gave_too_many : (before middle now : Option (List ℕ)) (xs got : List ℕ) (count length_xs most : ℕ) → Consumes before middle xs → Consumes middle now (take count got)
+    → length_xs ≡ length xs → count ≤ length got → length_xs + count ≡ suc most → GaveTooMany before now most
+gave_too_many before middle now xs got count length_xs most had more is fits many = record {
+  bytes = xs ++ take count got;
+  consumed = Consumes-trans before middle now xs (take count got) had more;
+  count = omega (arith, length-append xs (take count got), length-take count got);
+}
+
+-- the length behind a call that went well
+pub grown : (ok : Bool) (new old more : ℕ) → ok ≡ true → new ≡ (if ok then old + more else old) → new ≡ old + more
+grown true new old more went is = is
+grown false new old more went is = cc

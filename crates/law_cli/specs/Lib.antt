@@ -4,3 +4,6 @@ pub mod Promise
 pub mod Reading
 pub mod SmallReadPlain
 pub mod SmallTypes
+pub mod SmallTypesReading
+pub mod SmallReadWords
+pub mod SmallReadOrder

@@ -1,5 +1,5 @@
 -- What the top call promises.
-use Rattle.std.specs.Prelude.{◌≡◌, ◌≢◌, ℕ, ◌<◌, ◌⊎◌, ⊤, List, [], ◌∷◌, ◌++◌, codes, Option, Some, None}
+use Rattle.std.specs.Prelude.{◌≡◌, ℕ, ◌⊎◌, ⊤, List, [], ◌∷◌, codes, Option, Some, None}
 use Rattle.std.specs.Io.KnownBytes.{IsAtEnd}
 use Rattle.law_io.specs.Takings.{Taken, Grows, GrewByPrefix}
 use Rattle.law_io.specs.Counts.{Rose}
@@ -10,8 +10,8 @@ use Rattle.law_sig.specs.declared.parts.PoolRule.TheVariants as rule
 use Rattle.law_sig.specs.declared.parts.SigParts.{SigParts}
 use Rattle.law_read.specs.declared.raw.RawLine.{RawLine}
 use Rattle.law_cli.specs.Small.{IsSmallText, IsSmall}
+use Rattle.law_cli.specs.Reading.{GaveTooMany}
 use Rattle.law_cli.specs.Printed.{status_text, list_spelling}
-use Rattle.law_cli.specs.declared.status.Status.{Status}
 use Rattle.law_cli.specs.declared.status.Status.TheVariants as status
 
 -- the words are the one word `plain`
@@ -51,14 +51,19 @@ pub record IsDone (words : List (List ℕ)) (left_before left_now : Option (List
   pub took : Grows taken_before taken_now text
   pub at_end : IsAtEnd left_now
 
--- Usage: the words are no command, and the sink took the usage line
+-- Usage: the words are not the one word `plain`, and the sink took the usage line
 pub record IsUsage (words : List (List ℕ)) (taken_before taken_now : Taken) : Type 0 where
   pub other : ArePlainWords words → ⊥
   pub took : Grows taken_before taken_now (status_text status.Usage)
 
--- NotBuilt: the input is not small, and the sink took the line that says so
-pub record IsNotBuilt (words : List (List ℕ)) (left_before : Option (List ℕ)) (taken_before taken_now : Taken) : Type 0 where
+-- the input was read to its end, or one byte past the limit
+abbrev pub WasReadOut : Option (List ℕ) → Option (List ℕ) → Type 0
+WasReadOut before now = IsAtEnd now ⊎ GaveTooMany before now 65536
+
+-- NotBuilt: the word was `plain`, the input was read out and is not small, and the sink took the line that says so
+pub record IsNotBuilt (words : List (List ℕ)) (left_before left_now : Option (List ℕ)) (taken_before taken_now : Taken) : Type 0 where
   pub plain : ArePlainWords words
+  pub read : WasReadOut left_before left_now
   pub other : IsNotSmall left_before
   pub took : Grows taken_before taken_now (status_text status.NotBuilt)
 

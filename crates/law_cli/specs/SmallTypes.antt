@@ -1,5 +1,5 @@
--- stub
-use Rattle.std.specs.Prelude.{◌≡◌, List, [], ◌∷◌, take, Option, Some, None, MatchOption}
+-- The signatures that small texts state.
+use Rattle.std.specs.Prelude.{◌≡◌, List, [], ◌∷◌, take}
 use Rattle.law_sig.specs.declared.parts.SigParts.{SigParts}
 use Rattle.law_read.specs.declared.raw.RawLine.{RawLine}
 use Rattle.law_read.specs.declared.raw.RawLine.TheVariants as line

@@ -1,6 +1,6 @@
-ghost use Rattle.std.specs.Prelude.{◌≡◌, ◌<◌, ◌⊎◌, IfOk, OnOk};
+ghost use Rattle.std.specs.Prelude.{◌≡◌, ◌≢◌, ◌≤◌, IfOk};
 ghost use Rattle.law_io.specs.Counts.{Rose};
-ghost use Rattle.law_cli.specs.Reading.{WasRead, IsLonger};
+ghost use Rattle.law_cli.specs.Reading.{WasRead, GaveTooMany, GaveAtMost};
 ghost use Rattle.law_cli.specs.declared.input.Refusal.TheVariants as refusal;
 
 use law_io::Source;
@@ -24,10 +24,16 @@ pub enum Refusal {
 /// All bytes of the input. Of a longer input one byte past `MOST` is asked for, and no more.
 pub fn read_all<S: Source>(alloc: Global, input: &mut S) -> Result<Vec<u8>, Refusal>
     ensures read { IfOk result (λ bytes. WasRead (S.left input.old) (S.left input.new) bytes.items 65536) }
-    ensures kept { OnOk result (S.faults input.new ≡ S.faults input.old) }
+    ensures long { result ≡ Err refusal.TooLong → GaveTooMany (S.left input.old) (S.left input.new) 65536 }
+
+    // Whatever the answer, the source is asked for at most one byte past the limit; a fault stands before it.
+    ensures asked { GaveAtMost (S.left input.old) (S.left input.new) 65537 }
+    ensures fault_before { result ≡ Err refusal.Fault → GaveAtMost (S.left input.old) (S.left input.new) 65536 }
+
+    // A failed call is the answer, and no other call raised the count.
     ensures fault { result ≡ Err refusal.Fault → Rose (S.faults input.old) (S.faults input.new) }
-    ensures others { (S.faults input.old < S.faults input.new) → (result ≡ Err refusal.Fault) ⊎ (result ≡ Err refusal.NoMemory) }
-    ensures long { result ≡ Err refusal.TooLong → IsLonger (S.left input.old) 65536 }
+    ensures kept { result ≢ Err refusal.Fault → S.faults input.new ≡ S.faults input.old }
+    ensures later { S.faults input.old ≤ S.faults input.new }
 {
     let mut all = Vec::new(alloc);
     let mut buffer = [0u8; 4096];

@@ -9,7 +9,7 @@ use std::alloc::Global;
 pub enum Status {
     /// What was asked for was printed whole.
     Done,
-    /// The words are no command; the input was not asked for anything.
+    /// The words are not the one word `plain`; the input was not asked for anything.
     Usage,
     /// The input is no signature of the kind that `plain` takes so far.
     NotBuilt,

@@ -17,6 +17,14 @@ const FIRST_OF_TWO: &str =
 const PLUS: &str =
     "signature 1\nvars 2\nsize 3\nwidth 2\nbudget 3\npairs 20\npools given\nsort Nat\ncon Z\ncon S Nat\nfun plus Nat Nat -> Nat\nmatch 0\ncase Z = #1\ncase S = S (plus @0 #1)\nexplore plus\npool\nvalues Nat Z (S Z)\nend\n";
 
+const NOT_LAWS: &str = "law 1 plain not (not B.0) = B.0\n";
+
+const AND_LAWS: &str =
+    "law 1 plain and B.0 B.0 = B.0\nlaw 2 plain and B.1 B.0 = and B.0 B.1\nlaw 3 plain and B.1 B.1 = B.1\n";
+
+const FIRST_OF_TWO_LAWS: &str =
+    "law 1 plain k B.0 B.0 = B.0\nlaw 2 plain k B.0 B.1 = B.0\nlaw 3 plain k B.1 B.0 = B.1\nlaw 4 plain k B.1 B.1 = B.1\n";
+
 const POOL: &str = "pool\nvalues B F T\n";
 
 fn words_of(alloc: Global, words: &[&str]) -> Result<Vec<String>, AllocError> {
@@ -27,15 +35,12 @@ fn words_of(alloc: Global, words: &[&str]) -> Result<Vec<String>, AllocError> {
     Ok(made)
 }
 
-/// The law list of a signature with these laws.
-fn list_of(alloc: Global, signature: &str, laws: &[&str]) -> Result<String, AllocError> {
+/// The law list of a signature with these laws, each on a line.
+fn list_of(alloc: Global, signature: &str, laws: &str) -> Result<String, AllocError> {
     let mut list = String::from_str(alloc, "lawlist 1\n")?;
     list.push_str(signature)?;
     list.push_str(POOL)?;
-    for law in laws {
-        list.push_str(law)?;
-        list.push_str("\n")?;
-    }
+    list.push_str(laws)?;
     list.push_str("end\n")?;
     Ok(list)
 }
@@ -56,33 +61,25 @@ fn printed(
     Ok((code(&status), sink.bytes))
 }
 
+/// Whether `plain` prints the law list with these laws, whatever the pieces of the input are.
+fn lists(alloc: Global, signature: &str, laws: &str) -> Result<bool, AllocError> {
+    let list = list_of(alloc, signature, laws)?;
+    let whole = printed(alloc, &["plain"], signature, 4096)?;
+    let bytewise = printed(alloc, &["plain"], signature, 1)?;
+    Ok(
+        whole.0 == 0
+            && bytewise.0 == 0
+            && whole.1.as_slice() == list.as_bytes()
+            && bytewise.1.as_slice() == list.as_bytes(),
+    )
+}
+
 #[test]
 fn law_lists(rt: HostRuntime) -> Result<(), Fail> {
     let alloc = rt.alloc();
-    let not = ["law 1 plain not (not B.0) = B.0"];
-    let and = [
-        "law 1 plain and B.0 B.0 = B.0",
-        "law 2 plain and B.1 B.0 = and B.0 B.1",
-        "law 3 plain and B.1 B.1 = B.1",
-    ];
-    let first = [
-        "law 1 plain k B.0 B.0 = B.0",
-        "law 2 plain k B.0 B.1 = B.0",
-        "law 3 plain k B.1 B.0 = B.1",
-        "law 4 plain k B.1 B.1 = B.1",
-    ];
-    for (signature, laws) in [
-        (NOT, not.as_slice()),
-        (AND, and.as_slice()),
-        (FIRST_OF_TWO, first.as_slice()),
-    ] {
-        let list = list_of(alloc, signature, laws)?;
-        for step in [1usize, 4096] {
-            let (status, text) = printed(alloc, &["plain"], signature, step)?;
-            assert_eq!(rt; status, 0);
-            assert_eq!(rt; text.as_slice(), list.as_bytes());
-        }
-    }
+    assert!(rt; lists(alloc, NOT, NOT_LAWS)?);
+    assert!(rt; lists(alloc, AND, AND_LAWS)?);
+    assert!(rt; lists(alloc, FIRST_OF_TWO, FIRST_OF_TWO_LAWS)?);
     Ok(())
 }
 
@@ -100,9 +97,11 @@ fn other_inputs(rt: HostRuntime) -> Result<(), Fail> {
 #[test]
 fn other_words(rt: HostRuntime) -> Result<(), Fail> {
     let alloc = rt.alloc();
-    let table: [&[&str]; 4] = [&[], &["explore"], &["plain", "plain"], &["demo", "01"]];
-    for words in table {
-        let words = words_of(alloc, words)?;
+    for text in ["", "explore", "plain plain", "demo 01"] {
+        let mut words = Vec::new(alloc);
+        for word in text.split_whitespace() {
+            words.push(String::from_str(alloc, word)?)?;
+        }
         let mut source = MemSource::new(
             Vec::from_slice(alloc, NOT.as_bytes())?,
             16,
@@ -124,7 +123,7 @@ fn other_words(rt: HostRuntime) -> Result<(), Fail> {
 fn failing_calls(rt: HostRuntime) -> Result<(), Fail> {
     let alloc = rt.alloc();
     let words = words_of(alloc, &["plain"])?;
-    let list = list_of(alloc, NOT, &["law 1 plain not (not B.0) = B.0"])?;
+    let list = list_of(alloc, NOT, NOT_LAWS)?;
     for call in 0..20u64 {
         let mut source = MemSource::new(
             Vec::from_slice(alloc, NOT.as_bytes())?,
@@ -140,6 +139,15 @@ fn failing_calls(rt: HostRuntime) -> Result<(), Fail> {
             assert!(rt; sink.bytes.is_empty());
         }
     }
+    let wrong = "signature 9\nsignature 9\nsignature 9\n";
+    let mut source = MemSource::new(
+        Vec::from_slice(alloc, wrong.as_bytes())?,
+        16,
+        vec![in alloc; 2]?,
+    );
+    let mut sink = MemSink::new(alloc, 16, 4096, Vec::new(alloc))?;
+    let status = run(alloc, words.as_slice(), &mut source, &mut sink);
+    assert_eq!(rt; code(&status), 7);
     for call in 0..40u64 {
         let mut source = MemSource::new(
             Vec::from_slice(alloc, NOT.as_bytes())?,

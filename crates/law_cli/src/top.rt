@@ -1,6 +1,7 @@
-ghost use Rattle.std.specs.Prelude.{◌≡◌, ◌≢◌, ◌<◌, ◌⊎◌, ◌↔◌, map, string_bytes, IsTrue};
+ghost use Rattle.std.specs.Prelude.{◌≡◌, ◌≢◌, ◌<◌, ◌≤◌, ◌⊎◌, ◌↔◌, map, string_bytes, IsTrue};
 ghost use Rattle.law_io.specs.Counts.{Rose};
 ghost use Rattle.law_io.specs.Takings.{Grows, GrewByPrefix};
+ghost use Rattle.law_cli.specs.Reading.{GaveAtMost};
 ghost use Rattle.law_cli.specs.Promise.{ArePlainWords, IsDone, IsUsage, IsNotBuilt, IsCutOff};
 ghost use Rattle.law_cli.specs.declared.status.Status.TheVariants as status;
 
@@ -21,18 +22,23 @@ pub fn run<S: Source, K: Sink>(
         IsDone (map string_bytes words.now) (S.left input.old) (S.left input.new) (K.taken out.old) (K.taken out.new) }
     ensures usage { result ≡ status.Usage → IsUsage (map string_bytes words.now) (K.taken out.old) (K.taken out.new) }
 
-    // Where the words are no command, that is the answer, and the source isn't asked.
+    // Where the words are not the one word `plain`, that is the answer, and the source isn't asked.
     ensures usage_always { (ArePlainWords (map string_bytes words.now) → ⊥) → (result ≡ status.Usage) ⊎ (result ≡ status.WriteFault) }
     ensures unasked { (ArePlainWords (map string_bytes words.now) → ⊥) → input.new ≡ input.old }
     ensures not_built { result ≡ status.NotBuilt →
-        IsNotBuilt (map string_bytes words.now) (S.left input.old) (K.taken out.old) (K.taken out.new) }
+        IsNotBuilt (map string_bytes words.now) (S.left input.old) (S.left input.new) (K.taken out.old) (K.taken out.new) }
 
-    // A failed call of the source or the sink is never passed over.
+    // Nothing past one byte more than the limit is asked for.
+    ensures asked { GaveAtMost (S.left input.old) (S.left input.new) 65537 }
+
+    // While a count is below its last value, a failed call of the source or the sink is never passed over.
     ensures read_fault { result ≡ status.ReadFault → Rose (S.faults input.old) (S.faults input.new) }
     ensures read_fault_always { S.faults input.old < S.faults input.new → (result ≡ status.ReadFault) ⊎ (result ≡ status.NoMemory) }
     ensures write_fault { result ≡ status.WriteFault →
         IsCutOff (map string_bytes words.now) (S.left input.old) (K.taken out.old) (K.taken out.new) (K.faults out.old) (K.faults out.new) }
     ensures write_fault_always { K.faults out.old < K.faults out.new → result ≡ status.WriteFault }
+    ensures read_faults_later { S.faults input.old ≤ S.faults input.new }
+    ensures write_faults_later { K.faults out.old ≤ K.faults out.new }
 
     // Where nothing was printed, the sink is as before.
     ensures read_fault_prints_nothing { result ≡ status.ReadFault → out.new ≡ out.old }
@@ -78,6 +84,7 @@ fn finish<K: Sink>(out: &mut K, text: &[u8], planned: Status) -> Status
     ensures kept { result ≢ status.WriteFault → K.faults out.new ≡ K.faults out.old }
     ensures part { result ≡ status.WriteFault → GrewByPrefix (K.taken out.old) (K.taken out.new) text.now }
     ensures fault { result ≡ status.WriteFault → Rose (K.faults out.old) (K.faults out.new) }
+    ensures later { K.faults out.old ≤ K.faults out.new }
 {
     match push_all(out, text) {
         Ok(()) => planned,

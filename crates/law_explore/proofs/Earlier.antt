@@ -1,8 +1,8 @@
 -- When a term stands before another in the order K, by what the listing knows of them.
-use Rattle.std.proofs.Common.{◌≡◌, ℕ, ◌<◌, ◌⊎◌, inl, inr, List, [], ◌∷◌, map, sym, refl, ap, arith}
+use Rattle.std.proofs.Common.{◌≡◌, ℕ, ◌<◌, inl, inr, List, [], ◌∷◌, map, sym, refl, ap, arith}
 use Rattle.std.proofs.Math.Path.{subst₂}
 use Rattle.law_sig.specs.Tests.{weight}
-use Rattle.law_sig.specs.Order.{num, row, rank, ranked}
+use Rattle.law_sig.specs.Order.{num, row, rank}
 use Rattle.law_sig.specs.declared.tree.SortId.{SortId}
 use Rattle.law_sig.specs.declared.tree.SymId.{SymId}
 use Rattle.law_sig.specs.declared.tree.Tree.{Tree}

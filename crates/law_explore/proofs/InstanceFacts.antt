@@ -1,5 +1,5 @@
 -- The instances of a schema are exactly the terms that have it, rising in the order K; and all instances are the universe.
-use Rattle.std.proofs.Common.{◌≡◌, ℕ, zero, suc, ◌+◌, ◌<◌, ◌≤◌, ◌⊎◌, inl, inr, Bool, true, false, ◌&&◌, nat_lt, Some, IsTrue, List, [], ◌∷◌, ◌++◌, length, map, slice_get, slice_index_or, arith, refl, sym, ap, ap₂, ◌∙◌, subst}
+use Rattle.std.proofs.Common.{◌≡◌, ℕ, ◌<◌, ◌≤◌, inl, inr, true, Some, List, [], ◌∷◌, length, map, slice_get, slice_index_or, arith, refl, sym, ap, ap₂, ◌∙◌, subst}
 use Rattle.std.proofs.Math.Path.{subst₂}
 use Rattle.std.specs.List.{list_all, flat_map}
 use Rattle.std.specs.Cmp.Derive.{both_true}
@@ -8,7 +8,7 @@ use Rattle.std.proofs.lemmas.Option.{slice_get_within, get_or_from_slice_get, sl
 use Rattle.law_sig.specs.Lists.{In, Each, Rising}
 use Rattle.law_sig.specs.Lists.In.{here, there}
 use Rattle.law_sig.specs.Trees.{schema_of}
-use Rattle.law_sig.specs.Signature.{symbol_at, sort_over, sort_of, vars_at}
+use Rattle.law_sig.specs.Signature.{sort_of, vars_at}
 use Rattle.law_sig.specs.Tests.{InU, weight, is_explored, is_bounded}
 use Rattle.law_sig.specs.Order.{rank, explore_rank, IsBefore}
 use Rattle.law_sig.specs.WellFormed.{IsWellFormed}
@@ -17,19 +17,18 @@ use Rattle.law_sig.specs.declared.tree.SymId.{SymId}
 use Rattle.law_sig.specs.declared.tree.Tree.{Tree}
 use Rattle.law_sig.specs.declared.tree.Tree.TheVariants.{Var, App}
 use Rattle.law_sig.specs.declared.parts.SigParts.{SigParts}
-use Rattle.law_laws.specs.Orders.{WeighsSomething}
-use Rattle.law_laws.proofs.Ranks.{Below, below_less}
+use Rattle.law_laws.proofs.Ranks.{below_less}
 use Rattle.law_laws.proofs.Orders.{lighter, schema_weight}
 use Rattle.law_laws.proofs.Descents.{weighs_something}
 use Rattle.law_laws.proofs.ListFacts.{of_each, in_left, in_right, in_split, in_map}
-use Rattle.law_laws.proofs.TreeFacts.{tree_induct, fold-Var, fold-App, sort-Var, sort-App, schema-Var, schema-App, bounded-Var, bounded-App}
+use Rattle.law_laws.proofs.TreeFacts.{tree_induct, fold-Var, fold-App, schema-Var, schema-App, bounded-Var, bounded-App}
+use Rattle.law_laws.proofs.Sorts.{both_true as both, schema_sort}
 use Rattle.law_explore.specs.Rows.{choices, Lex}
 use Rattle.law_explore.specs.Listing.{variables_of, over_each, instances_step, instances, levels_to, listing}
 use Rattle.law_explore.specs.Universe.{IsUniverse}
 use Rattle.law_explore.proofs.Rising.{map_in, rising_append, rising_map, rising_weaken, rising_from, place_of, at_place}
 use Rattle.law_explore.proofs.RowFacts.{in_each_below, each_below_in, each_below_rising, AllIn, in_choices, choices_in, choices_rising}
 use Rattle.law_explore.proofs.Earlier.{Earlier, index_earlier, rows_earlier}
-use Rattle.law_explore.proofs.SortFacts.{both}
 use Rattle.law_explore.proofs.SchemaFacts.{IsSchema, AreLevels, levels_are}
 
 -- Schemas of terms
@@ -41,17 +40,6 @@ schema_twice = tree_induct (λ t. schema_of (schema_of t) ≡ schema_of t)
     (λ f args have. ap schema_of (schema-App f args) ∙ schema-App f (map schema_of args) ∙ ap (App f) (all args have) ∙ sym (schema-App f args))
   where
     all : (ts : List Tree) → Each (λ t. schema_of (schema_of t) ≡ schema_of t) ts → map schema_of (map schema_of ts) ≡ map schema_of ts
-    all [] have = refl
-    all (t ∷ ts) have = ap₂ ◌∷◌ have.0 (all ts have.1)
-
--- a term has the sort of its schema
-pub schema_sort : (parts : SigParts) (t : Tree) → sort_of parts (schema_of t) ≡ sort_of parts t
-schema_sort parts = tree_induct (λ t. sort_of parts (schema_of t) ≡ sort_of parts t)
-    (λ s i. ap (sort_of parts) (schema-Var s i) ∙ sort-Var parts s 0 ∙ sym (sort-Var parts s i))
-    (λ f args have. ap (sort_of parts) (schema-App f args) ∙ sort-App parts f (map schema_of args)
-    ∙ ap (sort_over (symbol_at parts f)) (all args have) ∙ sym (sort-App parts f args))
-  where
-    all : (ts : List Tree) → Each (λ t. sort_of parts (schema_of t) ≡ sort_of parts t) ts → map (sort_of parts) (map schema_of ts) ≡ map (sort_of parts) ts
     all [] have = refl
     all (t ∷ ts) have = ap₂ ◌∷◌ have.0 (all ts have.1)
 

@@ -1,5 +1,5 @@
 -- The equations of the universe with each term's first place are the law list.
-use Rattle.std.proofs.Common.{◌≡◌, ◌≢◌, ℕ, ◌+◌, ◌<◌, ◌≤◌, ◌⊎◌, inl, inr, ◌==◌, Bool, true, false, if◌then◌else◌, List, [], ◌∷◌, length, map, get_or, Option, Some, None, option_map, slice_get, arith, sym, ap, ap₂, ◌∙◌, refl, subst}
+use Rattle.std.proofs.Common.{◌≡◌, ℕ, ◌≤◌, inl, inr, ◌==◌, Bool, true, false, if◌then◌else◌, List, [], ◌∷◌, length, map, get_or, Option, Some, None, option_map, slice_get, arith, sym, ap, ◌∙◌, refl, subst}
 use Rattle.std.proofs.Math.Path.{subst₂}
 use Rattle.std.proofs.Math.Nat.{eq-or-lt_of_le}
 use Rattle.std.proofs.lemmas.Bool.{eqb-true, eq-eqb}
@@ -8,7 +8,7 @@ use Rattle.std.proofs.lemmas.Option.{slice_get-get_or, slice_get_within, slice_g
 use Rattle.law_sig.specs.Lists.{In, Rising}
 use Rattle.law_sig.specs.Lists.In.{here, there}
 use Rattle.law_sig.specs.Signature.{sort_of}
-use Rattle.law_sig.specs.Tests.{InU, Pools, Same}
+use Rattle.law_sig.specs.Tests.{InU, Pools}
 use Rattle.law_sig.specs.Order.{IsBefore}
 use Rattle.law_sig.specs.Laws.{IsLeast, IsListed, IsLawList}
 use Rattle.law_sig.specs.declared.tree.SortId.{SortId}
@@ -16,9 +16,8 @@ use Rattle.law_sig.specs.declared.tree.Tree.{Tree}
 use Rattle.law_sig.specs.declared.parts.Equation.{Equation}
 use Rattle.law_sig.specs.declared.parts.SigParts.{SigParts}
 use Rattle.law_laws.proofs.Orders.{never_before_itself, before_chain}
-use Rattle.law_explore.specs.Rows.{each_below}
 use Rattle.law_explore.specs.Universe.{IsUniverse}
-use Rattle.law_explore.specs.Firsts.{IsFirstSame, AreFirsts}
+use Rattle.law_explore.specs.Firsts.{AreFirsts}
 use Rattle.law_explore.specs.Equations.{equation_of, equation_at, equations}
 use Rattle.law_explore.specs.Tells.{Tells}
 use Rattle.law_explore.proofs.Rising.{place_of, at_place, rising_places}

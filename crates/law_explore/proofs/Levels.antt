@@ -1,8 +1,9 @@
 -- The lists of schemas, level by level.
 use Rattle.std.proofs.Common.{◌≡◌, ℕ, ◌+◌, List, [], ◌∷◌, ◌++◌, length, refl, ap, sym, ◌∙◌, add-one}
-use Rattle.std.proofs.lemmas.List.{length_push}
+use Rattle.std.proofs.lemmas.List.{append-nil, length_push}
 use Rattle.law_sig.specs.declared.tree.Tree.{Tree}
 use Rattle.law_sig.specs.declared.parts.SigParts.{SigParts}
+use Rattle.law_explore.specs.Rows.{each_below, crossed}
 use Rattle.law_explore.specs.Listing.{level, levels_to}
 
 -- one level more
@@ -28,3 +29,12 @@ pub level_first : (parts : SigParts) (none more : List (List Tree)) (next : List
 level_first parts none more next empty last grows =
     let e : more ≡ [] ∷ [] = grows ∙ ap (λ x. x ++ next ∷ []) empty ∙ ap (λ x. x ∷ []) last in
     (e ∙ sym (levels_none parts), ap length e)
+
+-- with no row there is nothing to stand in front of
+pub crossed_none : {A : Type 0} (xs : List A) → crossed xs [] ≡ []
+crossed_none [] = refl
+crossed_none (x ∷ xs) = crossed_none xs
+
+-- a number that lists nothing adds nothing
+pub nothing_more : {A : Type 0} (n : ℕ) (f : ℕ → List A) (found : List A) → found ≡ each_below n f → f n ≡ [] → found ≡ each_below (n + 1) f
+nothing_more n f found so_far none = so_far ∙ sym (append-nil (each_below n f)) ∙ ap (λ l. each_below n f ++ l) (sym none) ∙ rw add-one refl

@@ -18,7 +18,7 @@ use Rattle.law_explore.specs.Equations.{equations}
 use Rattle.law_explore.specs.Profile.{IsFirstProfile, given_pools}
 use Rattle.law_explore.specs.Constants.{tests_of, first_values, vector}
 use Rattle.law_explore.proofs.LawFacts.{equations_are, has_least}
-use Rattle.law_explore.proofs.ValueFacts.{IsSmall, is_small, defined, vectors_tell}
+use Rattle.law_explore.proofs.ValueFacts.{is_small, defined, vectors_tell}
 
 -- what the law list of a signature is to be
 pub record IsPlain (parts : SigParts) (pools : Pools) (laws : List Equation) : Type 0 where

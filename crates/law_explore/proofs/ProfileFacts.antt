@@ -1,24 +1,23 @@
 -- What the first profile says of a signature's symbols, its values and its applications.
-use Rattle.std.proofs.Common.{◌≡◌, ℕ, zero, suc, ◌+◌, ◌<◌, ◌≤◌, Bool, true, false, ◌&&◌, cond, if◌then◌else◌, nat_lt, IsTrue, List, [], ◌∷◌, length, map, get_or, slice_get, Option, Some, None, option_map, option_and_then, arith, refl, sym, ap, ◌∙◌, subst}
+use Rattle.std.proofs.Common.{◌≡◌, ℕ, zero, suc, ◌+◌, ◌≤◌, Bool, true, false, cond, if◌then◌else◌, IsTrue, List, [], ◌∷◌, length, map, get_or, slice_get, Option, Some, None, option_map, option_and_then, arith, refl, sym, ap, ◌∙◌, subst}
 use Rattle.std.specs.List.{list_all, position_from}
 use Rattle.std.specs.Option.{unwrap_or}
-use Rattle.std.proofs.lemmas.Bool.{ltb-true, eqb-true, eq-eqb}
-use Rattle.std.proofs.lemmas.Option.{slice_get-get_or, slice_get_within, slice_get-map, get_or_from_slice_get}
+use Rattle.std.proofs.lemmas.Bool.{ltb-true, eq-eqb}
+use Rattle.std.proofs.lemmas.Option.{slice_get-get_or, slice_get_within, slice_get-map}
 use Rattle.law_sig.specs.Lists.{In, Each}
 use Rattle.law_sig.specs.Lists.In.{here, there}
-use Rattle.law_sig.specs.Trees.{same_sort, same_symbol}
-use Rattle.law_sig.specs.Signature.{symbol_at, is_declared_sort, args_of, result_of, makes_sort, constructors, constructors_from, sort_over, sort_of}
-use Rattle.law_sig.specs.Evaluate.{Made, Chosen, chosen, chosen_at, chosen_case, within, ap as applied}
+use Rattle.law_sig.specs.Trees.{same_symbol}
+use Rattle.law_sig.specs.Signature.{symbol_at, is_declared_sort, args_of, makes_sort, constructors, constructors_from, sort_of}
+use Rattle.law_sig.specs.Evaluate.{Made, chosen_at, chosen_case, within, ap as applied}
 use Rattle.law_sig.specs.Relation.{Applies, Gives}
 use Rattle.law_sig.specs.Relation.Applies.{built, ran}
 use Rattle.law_sig.specs.Relation.Gives.{param, make}
 use Rattle.law_sig.specs.Relation.GiveAll.{none}
-use Rattle.law_sig.specs.WellFormed.{IsWellFormed, IsDeclared, IsSymbol, IsValueOf, value_step, is_constructor, Scope, Part, part_step, sort_of_body, where_true, IsBody, IsCase, AreCases, FitsPlace}
+use Rattle.law_sig.specs.WellFormed.{IsWellFormed, IsDeclared, IsValueOf, value_step, is_constructor, Scope, Part, part_step, sort_of_body, where_true, IsBody, IsCase, AreCases, FitsPlace}
 use Rattle.law_sig.specs.declared.tree.SortId.{SortId}
 use Rattle.law_sig.specs.declared.tree.SymId.{SymId}
 use Rattle.law_sig.specs.declared.tree.Tree.{Tree}
-use Rattle.law_sig.specs.declared.tree.Tree.TheOpen as o
-use Rattle.law_sig.specs.declared.tree.Tree.TheVariants.{Var, App, outs-App}
+use Rattle.law_sig.specs.declared.tree.Tree.TheVariants.{App, outs-App}
 use Rattle.law_sig.specs.declared.tree.Tree.TheViews.{out-Tree}
 use Rattle.law_sig.specs.declared.tree.Tree.TheFolds.{fold-Tree}
 use Rattle.law_sig.specs.declared.tree.Body.{Body}
@@ -35,11 +34,10 @@ use Rattle.law_laws.proofs.ListFacts.{of_each}
 use Rattle.law_laws.proofs.TreeFacts.{tree_cases, fold-Var, fold-App}
 use Rattle.law_laws.proofs.BodyFacts.{is_within}
 use Rattle.law_laws.proofs.Application.{applies_is}
-use Rattle.law_laws.proofs.Sorts.{HaveSorts, sorted_app}
+use Rattle.law_laws.proofs.Sorts.{HaveSorts, sorted_app, both_true as both}
 use Rattle.law_explore.specs.Profile.{IsAtomStep, IsAtom, IsConstant, IsFirstProfile}
-use Rattle.law_explore.specs.Constants.{only_sort, constant, number_of, atom_number, case_number, place_of, case_of, applied_number}
+use Rattle.law_explore.specs.Constants.{only_sort, constant, number_of, atom_number, case_number, case_of, applied_number}
 use Rattle.law_explore.proofs.Rising.{at_place}
-use Rattle.law_explore.proofs.SortFacts.{both}
 
 -- Lists and places
 
@@ -201,6 +199,16 @@ module _ (parts : SigParts) (well : IsWellFormed parts) (profile : IsFirstProfil
     chosen_is : chosen_at parts fun place (map constant numbers) ≡ Some (record { body = body; fields = fields })
     stands : slice_get fun.cases (case_of parts place numbers) ≡ Some body
 
+  matched : (fun : Fun) (place n at : ℕ) (args : List Tree) (body : Body) → slice_get fun.args place ≡ Some only_sort → slice_get args place ≡ Some (constant n)
+      → position_from (same_symbol (record { 0 = n })) 0 (constructors parts only_sort) ≡ Some at → slice_get fun.cases at ≡ Some body
+      → chosen_at parts fun (Some place) args ≡ Some (record { body = body; fields = [] })
+  matched fun place n at args body sort_is value_is position stands =
+      ap (option_and_then (λ s. option_and_then (λ value. chosen_case parts fun s (out-Tree value)) (slice_get args place))) sort_is
+      ∙ ap (option_and_then (λ value. chosen_case parts fun only_sort (out-Tree value))) value_is
+      ∙ ap (chosen_case parts fun only_sort) (outs-App (record { 0 = n }) [])
+      ∙ ap (option_and_then (λ k. option_map (λ x. record { body = x; fields = [] }) (slice_get fun.cases k))) position
+      ∙ ap (option_map (λ x. record { body = x; fields = [] })) stands
+
   is_chosen : (f : SymId) (fun : Fun) (numbers : List ℕ) → length numbers ≡ length fun.args → Each IsNumber numbers → Each (IsDeclared parts) fun.args
       → (place : Option ℕ) → FitsPlace parts f fun place → IsChosen fun place numbers
   is_chosen f fun numbers long each declared None (body, cases_are, is_body) =
@@ -232,11 +240,8 @@ module _ (parts : SigParts) (well : IsWellFormed parts) (profile : IsFirstProfil
         scope = record { owner = f; place = Some place; fields = fields; params = fun.args };
         params = refl;
         is_body = is_body;
-        chosen_is = ap (option_and_then (λ s. option_and_then (λ value. chosen_case parts fun s (out-Tree value)) (slice_get (map constant numbers) place))) (arg_is ∙ ap Some same)
-            ∙ ap (option_and_then (λ value. chosen_case parts fun only_sort (out-Tree value))) (slice_get-map constant numbers place ∙ ap (option_map constant) found)
-            ∙ ap (chosen_case parts fun only_sort) (outs-App own [])
-            ∙ ap (option_and_then (λ n. option_map (λ x. record { body = x; fields = [] }) (slice_get fun.cases n))) position
-            ∙ ap (option_map (λ x. record { body = x; fields = [] })) h.stands;
+        chosen_is = matched fun place (get_or numbers place 0) h.at (map constant numbers) h.body (arg_is ∙ ap Some same)
+            (slice_get-map constant numbers place ∙ ap (option_map constant) found) position h.stands;
         stands = ap (λ o. slice_get fun.cases (unwrap_or o 0)) position ∙ h.stands;
       }
     where

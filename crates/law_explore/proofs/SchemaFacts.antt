@@ -1,5 +1,5 @@
 -- The lists of schemas are, weight by weight, exactly the schemas of the universe, rising in the order K.
-use Rattle.std.proofs.Common.{◌≡◌, ℕ, zero, suc, ◌+◌, ◌-◌, ◌<◌, ◌≤◌, ◌⊎◌, inl, inr, ◌==◌, Bool, true, false, ◌&&◌, if◌then◌else◌, nat_lt, nat_le, Option, Some, None, IsTrue, List, [], ◌∷◌, ◌++◌, length, map, slice_get, slice_index_or, arith, rules, refl, sym, ap, ap₂, ◌∙◌, subst}
+use Rattle.std.proofs.Common.{◌≡◌, ℕ, zero, suc, ◌+◌, ◌-◌, ◌<◌, ◌≤◌, ◌⊎◌, inl, inr, ◌==◌, Bool, true, false, ◌&&◌, if◌then◌else◌, nat_lt, nat_le, Option, Some, None, IsTrue, List, [], ◌∷◌, ◌++◌, length, map, slice_index_or, arith, rules, refl, sym, ap, ap₂, ◌∙◌, subst}
 use Rattle.std.proofs.Math.Nat.{eq-or-lt_of_le}
 use Rattle.std.proofs.Math.Path.{subst₂}
 use Rattle.std.specs.List.{list_all}
@@ -10,7 +10,7 @@ use Rattle.std.specs.Cmp.Derive.{both_true}
 use Rattle.law_sig.specs.Lists.{In, Each, Rising, total}
 use Rattle.law_sig.specs.Lists.In.{here, there}
 use Rattle.law_sig.specs.Trees.{schema_of}
-use Rattle.law_sig.specs.Signature.{symbol_at, args_of, result_of, is_declared_sort, has_sort, same_sorts, vars_at, weight_at, sort_of}
+use Rattle.law_sig.specs.Signature.{symbol_at, args_of, result_of, is_declared_sort, vars_at, weight_at, sort_of}
 use Rattle.law_sig.specs.Tests.{weight, is_explored, is_bounded}
 use Rattle.law_sig.specs.declared.tree.SortId.{SortId}
 use Rattle.law_sig.specs.declared.tree.SymId.{SymId}
@@ -23,13 +23,14 @@ use Rattle.law_laws.specs.Orders.{WeighsSomething}
 use Rattle.law_laws.proofs.Orders.{lighter}
 use Rattle.law_laws.proofs.Descents.{rank_extent}
 use Rattle.law_laws.proofs.ListFacts.{each_of, of_each, in_left, in_right, in_split, in_map}
-use Rattle.law_laws.proofs.TreeFacts.{tree_cases, same_var, same_app, sort-Var, schema-Var, schema-App, weight-Var, weight-App, bounded-Var, bounded-App}
+use Rattle.law_laws.proofs.TreeFacts.{tree_cases, same_var, same_app, schema-Var, schema-App, weight-Var, weight-App, bounded-Var, bounded-App}
+use Rattle.law_laws.proofs.Sorts.{HaveSorts, both_true as both, same_sort_is, same_sort_itself, sorted_app, app_sorted, sorted_var, var_sorted}
 use Rattle.law_explore.specs.Rows.{each_below, rows_of, Lex}
 use Rattle.law_explore.specs.Listing.{heads_sort, of_sort, of_weight, first_variable, first_variables, over_each, applications_of, applications, level, levels_to}
 use Rattle.law_explore.proofs.Rising.{map_in, rising_append, rising_map}
 use Rattle.law_explore.proofs.RowFacts.{in_each_below, each_below_in, each_below_rising, IsRow, in_rows, rows_in, rows_rising}
 use Rattle.law_explore.proofs.Earlier.{Earlier, sort_earlier, variable_earlier, symbol_earlier, rows_earlier}
-use Rattle.law_explore.proofs.SortFacts.{both, some_if, same_is, is_same, has_is, IsApplied, applied, is_applied, head_sorted}
+use Rattle.law_explore.proofs.SortFacts.{head_sorted}
 
 -- a term of the universe, but for its weight, that is its own schema and weighs so much
 pub record IsSchema (parts : SigParts) (k : ℕ) (t : Tree) : Type 0 where
@@ -99,11 +100,11 @@ module _ (parts : SigParts) (n : ℕ) (levels : List (List Tree)) (are : AreLeve
       ]
     where
       found : IsSchema parts k t → heads_sort parts sort (out-Tree t) ≡ true → IsSchema parts k t × (sort_of parts t ≡ Some sort)
-      found s headed = (s, s.sorted ∙ ap Some (same_is s.sort sort (sym (head_sorted parts s.sort sort t s.sorted) ∙ headed)))
+      found s headed = (s, s.sorted ∙ ap Some (same_sort_is s.sort sort (sym (head_sorted parts s.sort sort t s.sorted) ∙ headed)))
 
   items_complete : (k : ℕ) (sort : SortId) (t : Tree) → k ≤ n → IsSchema parts k t → sort_of parts t ≡ Some sort → In t (of_weight parts levels k sort)
   items_complete k sort t within s sorted =
-      of_sort_in parts sort ((are.each k within).complete t s) (head_sorted parts sort sort t sorted ∙ is_same sort sort refl)
+      of_sort_in parts sort ((are.each k within).complete t s) (head_sorted parts sort sort t sorted ∙ same_sort_itself sort)
 
   items_rising : (k : ℕ) (sort : SortId) → Rising (Earlier parts) (of_weight parts levels k sort)
   items_rising k sort = of_sort_rising (Earlier parts) parts sort (slice_index_or levels k []) (by (cases_lt n k))
@@ -126,13 +127,13 @@ module _ (parts : SigParts) (n : ℕ) (levels : List (List Tree)) (are : AreLeve
 
   -- schemas of these sorts that have this weight in all
   pub record AreArgs (sorts : List SortId) (m : ℕ) (ts : List Tree) : Type 0 where
-    pub same : same_sorts (map (sort_of parts) ts) sorts ≡ true
+    pub sorts_are : HaveSorts parts ts sorts
     pub weighs : total (map (weight parts) ts) ≡ m
     pub bounded : list_all (λ inside. inside) (map (is_bounded parts) ts) ≡ true
     pub flat : map schema_of ts ≡ ts
 
   args_sound : (sorts : List SortId) (m : ℕ) (ts : List Tree) → IsRow (of_weight parts levels) sorts m ts → AreArgs sorts m ts
-  args_sound [] m [] h = record { same = refl; weighs = sym h; bounded = refl; flat = refl }
+  args_sound [] m [] h = record { sorts_are = tt; weighs = sym h; bounded = refl; flat = refl }
   args_sound [] m (t ∷ ts) h = absurd h
   args_sound (s ∷ ss) m [] h = absurd h
   args_sound (s ∷ ss) m (t ∷ ts) (k, upto, at, rest) =
@@ -141,7 +142,7 @@ module _ (parts : SigParts) (n : ℕ) (levels : List (List Tree)) (are : AreLeve
       let w = one.weighs in
       let ws = more.weighs in
       record {
-        same = both_true (ap (λ o. has_sort o s) sorted ∙ is_same s s refl) more.same;
+        sorts_are = (sorted, more.sorts_are);
         weighs = omega arith;
         bounded = both_true one.bounded more.bounded;
         flat = ap₂ ◌∷◌ one.flat more.flat;
@@ -149,19 +150,18 @@ module _ (parts : SigParts) (n : ℕ) (levels : List (List Tree)) (are : AreLeve
 
   args_complete : (sorts : List SortId) (m : ℕ) (ts : List Tree) → m ≤ n → AreArgs sorts m ts → IsRow (of_weight parts levels) sorts m ts
   args_complete [] m [] within a = sym a.weighs
-  args_complete [] m (t ∷ ts) within a = let e = a.same in cc
-  args_complete (s ∷ ss) m [] within a = let e = a.same in cc
+  args_complete [] m (t ∷ ts) within a = absurd a.sorts_are
+  args_complete (s ∷ ss) m [] within a = absurd a.sorts_are
   args_complete (s ∷ ss) m (t ∷ ts) within a =
-      let (has, have) = both (has_sort (sort_of parts t) s) (same_sorts (map (sort_of parts) ts) ss) a.same in
       let (is, are) = both (is_bounded parts t) (list_all (λ inside. inside) (map (is_bounded parts) ts)) a.bounded in
-      let sorted : sort_of parts t ≡ Some s = has_is (sort_of parts t) s has in
+      let sorted = a.sorts_are.0 in
       let w = a.weighs in
       let flat = a.flat in
       let one : IsSchema parts (weight parts t) t = record { sort = s; sorted = sorted; bounded = is; flat = cc; weighs = refl } in (
         weight parts t,
         omega arith,
         items_complete (weight parts t) s t (omega arith) one sorted,
-        args_complete ss (m - weight parts t) ts (omega arith) (record { same = have; weighs = omega arith; bounded = are; flat = cc }),
+        args_complete ss (m - weight parts t) ts (omega arith) (record { sorts_are = a.sorts_are.1; weighs = omega arith; bounded = are; flat = cc }),
       )
 
   -- Applications
@@ -209,7 +209,7 @@ module _ (parts : SigParts) (n : ℕ) (levels : List (List Tree)) (are : AreLeve
       let is = a.is in
       record {
         sort = result_of a.symbol;
-        sorted = ap (sort_of parts) is ∙ is_applied parts f a.args (result_of a.symbol) (record { symbol = a.symbol; declared = a.declared; fits = r.same; gives = refl });
+        sorted = ap (sort_of parts) is ∙ app_sorted parts f a.args (result_of a.symbol) (record { symbol = a.symbol; declared = a.declared; result = refl; sorts = r.sorts_are });
         bounded = ap (is_bounded parts) is ∙ bounded-App parts f a.args ∙ both_true a.explored r.bounded;
         flat = ap schema_of is ∙ schema-App f a.args ∙ ap (App f) r.flat ∙ sym is;
         weighs = ap (weight parts) is ∙ wt ∙ omega arith;
@@ -217,7 +217,7 @@ module _ (parts : SigParts) (n : ℕ) (levels : List (List Tree)) (are : AreLeve
 
   over_complete : WeighsSomething parts → (f : SymId) (args : List Tree) → IsSchema parts (suc n) (App f args) → IsOver (suc n) f (symbol_at parts f) (App f args)
   over_complete weighs f args s =
-      let a = applied parts f args s.sort s.sorted in
+      let a = sorted_app parts f args s.sort s.sorted in
       let (explored, bounded) = both (is_explored parts f) (list_all (λ inside. inside) (map (is_bounded parts) args)) (sym (bounded-App parts f args) ∙ s.bounded) in
       let (same, flat) = same_app f f (map schema_of args) args (sym (schema-App f args) ∙ s.flat) in
       let ws = s.weighs in
@@ -231,7 +231,7 @@ module _ (parts : SigParts) (n : ℕ) (levels : List (List Tree)) (are : AreLeve
         args = args;
         row = rows_in (of_weight parts levels) (args_of a.symbol) (suc n - weight_at parts f) args
             (args_complete (args_of a.symbol) (suc n - weight_at parts f) args (omega arith)
-            (record { same = a.fits; weighs = omega arith; bounded = bounded; flat = flat }));
+            (record { sorts_are = a.sorts; weighs = omega arith; bounded = bounded; flat = flat }));
         is = refl;
       }
 
@@ -270,14 +270,10 @@ module _ (parts : SigParts) (n : ℕ) (levels : List (List Tree)) (are : AreLeve
   first_sound : (t : Tree) → IsFirst t → IsSchema parts 1 t
   first_sound t a = by (record { 0 = a.number }) a.is (lt-ltb a.number (length parts.sort_names) a.declared) a.some
     where
-      declared_some : (b : Bool) (sort : SortId) → b ≡ true → (if b then Some sort else None) ≡ Some sort
-      declared_some true sort e = refl
-      declared_some false sort e = cc
-
       by : (sort : SortId) → t ≡ Var sort 0 → is_declared_sort parts sort ≡ true → nat_lt 0 (vars_at parts sort) ≡ true → IsSchema parts 1 t
       by sort is declared some = record {
         sort = sort;
-        sorted = ap (sort_of parts) is ∙ sort-Var parts sort 0 ∙ declared_some (is_declared_sort parts sort) sort declared;
+        sorted = ap (sort_of parts) is ∙ var_sorted parts sort 0 declared;
         bounded = ap (is_bounded parts) is ∙ bounded-Var parts sort 0 ∙ some;
         flat = ap schema_of is ∙ schema-Var sort 0 ∙ sym is;
         weighs = ap (weight parts) is ∙ weight-Var parts sort 0;
@@ -286,7 +282,7 @@ module _ (parts : SigParts) (n : ℕ) (levels : List (List Tree)) (are : AreLeve
   first_complete : (sort : SortId) (index : ℕ) → IsSchema parts (suc n) (Var sort index) → (suc n ≡ 1) × In (Var sort index) (first_variables parts)
   first_complete sort index s =
       let (same, zero_is) = same_var sort sort 0 index (sym (schema-Var sort index) ∙ s.flat) in
-      let (declared, is) = some_if (is_declared_sort parts sort) sort s.sort (sym (sort-Var parts sort index) ∙ s.sorted) in
+      let (declared, is) = sorted_var parts sort index s.sort s.sorted in
       let bounded : nat_lt 0 (vars_at parts sort) ≡ true = ap (λ i. nat_lt i (vars_at parts sort)) zero_is ∙ sym (bounded-Var parts sort index) ∙ s.bounded in (
         sym s.weighs ∙ weight-Var parts sort index,
         subst (λ i. In (Var sort i) (first_variables parts)) zero_is

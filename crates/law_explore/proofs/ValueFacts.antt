@@ -1,35 +1,33 @@
 -- In the first profile every term of the universe has a value at every test, whose number is the one that is computed; and the
 -- vectors of these numbers tell terms apart exactly as the tests do.
-use Rattle.std.proofs.Common.{◌≡◌, ℕ, zero, suc, ◌+◌, ◌*◌, ◌⊎◌, inl, inr, ◌/◌, ◌%◌, ◌<◌, ◌≤◌, ◌==◌, Bool, true, false, ◌&&◌, if◌then◌else◌, nat_lt, IsTrue, IsSome, List, [], ◌∷◌, ◌++◌, length, map, take, slice_get, slice_index_or, Option, Some, None, option_map, option_and_then, arith, refl, sym, ap, ap₂, ◌∙◌, subst, zero-add}
+use Rattle.std.proofs.Common.{◌≡◌, ℕ, zero, suc, ◌+◌, ◌*◌, inl, inr, ◌/◌, ◌%◌, ◌<◌, ◌≤◌, ◌==◌, Bool, true, false, if◌then◌else◌, IsTrue, IsSome, List, [], ◌∷◌, ◌++◌, length, map, slice_get, slice_index_or, Some, option_map, option_and_then, arith, refl, sym, ap, ap₂, ◌∙◌, subst, zero-add}
 use Rattle.std.specs.List.{list_all}
 use Rattle.std.proofs.Math.Nat.{eq-or-lt_of_le, div-one, mul-one, div-eq_of_lt, mod-eq_of_lt, mod-lt}
 use Rattle.std.proofs.lemmas.Bool.{ltb-true}
 use Rattle.std.proofs.lemmas.List.{same_from_push}
 use Rattle.std.proofs.lemmas.Option.{slice_get-get_or}
-use Rattle.law_sig.specs.Lists.{In, Each, product, total}
+use Rattle.law_sig.specs.Lists.{Each, product}
 use Rattle.law_sig.specs.Trees.{node_count, depth}
 use Rattle.law_sig.specs.Evaluate.{Made, ap as applied}
-use Rattle.law_sig.specs.Signature.{symbol_at, args_of, is_declared_sort, vars_at, width_at, sort_of}
-use Rattle.law_sig.specs.Tests.{InU, Pools, first_of, per_variable, radices, assignments, digit_in, digit, test_count, value_at, pool_value, all_present, val, val_step, Same, IsDefined, is_explored, is_bounded}
-use Rattle.law_sig.specs.WellFormed.{IsWellFormed, IsDeclared, IsBetween, IsPool, IsPoolFrom, IsPoolRule, AreValues, IsValueOf, IsWritable}
+use Rattle.law_sig.specs.Signature.{args_of, is_declared_sort, vars_at, width_at, sort_of}
+use Rattle.law_sig.specs.Tests.{InU, first_of, per_variable, radices, assignments, digit_in, digit, test_count, value_at, pool_value, all_present, val, IsDefined, is_explored, is_bounded}
+use Rattle.law_sig.specs.WellFormed.{IsWellFormed, IsDeclared, IsBetween, IsPoolFrom, IsPoolRule, AreValues, IsValueOf, IsWritable}
 use Rattle.law_sig.specs.declared.tree.SortId.{SortId}
 use Rattle.law_sig.specs.declared.tree.SymId.{SymId}
 use Rattle.law_sig.specs.declared.tree.Tree.{Tree}
-use Rattle.law_sig.specs.declared.tree.Tree.TheVariants.{Var, App}
+use Rattle.law_sig.specs.declared.tree.Tree.TheVariants.{Var}
 use Rattle.law_sig.specs.declared.tree.Tree.TheViews.{out-Tree}
-use Rattle.law_sig.specs.declared.parts.PoolRule.TheVariants as rule
 use Rattle.law_sig.specs.declared.parts.SigParts.{SigParts}
 use Rattle.law_laws.proofs.ListFacts.{of_each, each_map}
 use Rattle.law_laws.proofs.Descents.{at_any_place}
 use Rattle.law_laws.proofs.TreeFacts.{tree_induct, tree_cases, same_app, fold-Var, fold-App, val-Var, val-App, bounded-Var, bounded-App}
-use Rattle.law_laws.proofs.Sorts.{HaveSorts, sorted_app, sorted_var}
+use Rattle.law_laws.proofs.Sorts.{HaveSorts, sorted_app, sorted_var, both_true as both}
 use Rattle.law_explore.specs.Rows.{each_below}
 use Rattle.law_explore.specs.Universe.{IsUniverse}
 use Rattle.law_explore.specs.Tells.{Tells}
 use Rattle.law_explore.specs.Profile.{IsFirstProfile}
-use Rattle.law_explore.specs.Constants.{only_sort, constant, number_of, tests_with, tests_of, place_in, number_at, applied_number, value, value_step, vector}
+use Rattle.law_explore.specs.Constants.{only_sort, constant, number_of, tests_with, tests_of, place_in, number_at, value, value_step, vector}
 use Rattle.law_explore.proofs.Rising.{at_place}
-use Rattle.law_explore.proofs.SortFacts.{both}
 use Rattle.law_explore.proofs.ProfileFacts.{only, IsNumber, application_is, value_is}
 
 -- Digits of at most two variables of one width

@@ -18,7 +18,6 @@ use Rattle.law_sig.specs.declared.tree.Body.{Body}
 use Rattle.law_sig.specs.declared.tree.Body.TheOpen.{Body-F}
 use Rattle.law_sig.specs.declared.tree.Body.TheOpen as b
 use Rattle.law_sig.specs.declared.tree.Body.TheViews.{out-Body}
-use Rattle.law_sig.specs.declared.parts.Fun.{Fun}
 use Rattle.law_sig.specs.declared.parts.Sym.{Sym}
 use Rattle.law_sig.specs.declared.parts.Sym.TheVariants as sym
 use Rattle.law_sig.specs.declared.parts.SigParts.{SigParts}
@@ -43,6 +42,7 @@ number_of (o.App head args) = head.0
 abbrev pub tests_with : ℕ → ℕ → ℕ
 tests_with vars width = if vars == 0 then 1 else if vars == 1 then width else width * width
 
+-- how many tests a signature of the profile has
 abbrev pub tests_of : SigParts → ℕ
 tests_of parts = tests_with (vars_at parts only_sort) (width_at parts only_sort)
 
@@ -63,13 +63,14 @@ first_values ((values ∷ sorts) ∷ pools) = values
 
 -- Applications
 
--- what a body that is an atom gives
+-- what a body that is an atom gives over arguments of these numbers
 abbrev pub atom_number : List ℕ → Body-F Body → ℕ
 atom_number args (b.Field number) = 0
 atom_number args (b.Param number) = slice_index_or args number 0
 atom_number args (b.Make head fields) = head.0
 atom_number args (b.Call head fields) = 0
 
+-- what a case gives, if there is one
 abbrev pub case_number : List ℕ → Option Body → ℕ
 case_number args None = 0
 case_number args (Some body) = atom_number args (out-Body body)
@@ -78,10 +79,12 @@ case_number args (Some body) = atom_number args (out-Body body)
 abbrev pub place_of : SigParts → ℕ → ℕ
 place_of parts number = unwrap_or (position_from (same_symbol (record { 0 = number })) 0 (constructors parts only_sort)) 0
 
+-- which case applies: that of the argument at the match place, or the only one
 abbrev pub case_of : SigParts → Option ℕ → List ℕ → ℕ
 case_of parts None args = 0
 case_of parts (Some place) args = place_of parts (slice_index_or args place 0)
 
+-- what a symbol gives
 abbrev pub applied_number : SigParts → SymId → Option Sym → List ℕ → ℕ
 applied_number parts f None args = 0
 applied_number parts f (Some (sym.Con con)) args = f.0
@@ -89,6 +92,7 @@ applied_number parts f (Some (sym.Fun fun)) args = case_number args (slice_get f
 
 -- Terms
 
+-- a variable reads its place in the pool, and a symbol is applied
 abbrev pub value_step : SigParts → List Tree → ℕ → Tree-F ℕ → ℕ
 value_step parts values test (o.Var sort index) = number_at (slice_get values (place_in (width_at parts only_sort) test index))
 value_step parts values test (o.App head args) = applied_number parts head (symbol_at parts head) args

@@ -10,6 +10,7 @@ equation_of terms at None first = []
 equation_of terms at (Some t) None = []
 equation_of terms at (Some t) (Some first) = if first == at then [] else record { left = t; right = slice_index_or terms first t } ∷ []
 
+-- the equation at a place, if there is one
 abbrev pub equation_at : List Tree → List ℕ → ℕ → List Equation
 equation_at terms firsts at = equation_of terms at (slice_get terms at) (slice_get firsts at)
 

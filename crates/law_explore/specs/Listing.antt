@@ -1,7 +1,7 @@
 -- The universe as a list: the schemas weight by weight, and then the instances of each.
 use Rattle.std.specs.Prelude.{ℕ, zero, suc, ◌-◌, ◌==◌, List, [], ◌∷◌, ◌++◌, length, map, Bool, false, ◌&&◌, if◌then◌else◌, nat_lt, nat_le, Option, Some, None, slice_index_or}
 use Rattle.std.specs.List.{flat_map}
-use Rattle.law_sig.specs.Trees.{same_sort, joined}
+use Rattle.law_sig.specs.Trees.{same_sort}
 use Rattle.law_sig.specs.Signature.{symbol_at, args_of, result_of, vars_at, weight_at}
 use Rattle.law_sig.specs.Tests.{is_explored}
 use Rattle.law_sig.specs.declared.tree.SortId.{SortId}
@@ -14,7 +14,7 @@ use Rattle.law_sig.specs.declared.tree.Tree.TheFolds.{fold-Tree}
 use Rattle.law_sig.specs.declared.tree.Tree.TheViews.{out-Tree}
 use Rattle.law_sig.specs.declared.parts.Sym.{Sym}
 use Rattle.law_sig.specs.declared.parts.SigParts.{SigParts}
-use Rattle.law_explore.specs.Rows.{each_below, crossed, choices, rows_of}
+use Rattle.law_explore.specs.Rows.{each_below, choices, rows_of}
 
 -- Sorts by the head alone
 
@@ -51,7 +51,7 @@ first_variables parts = each_below (length parts.sort_names) (λ i. first_variab
 abbrev pub over_each : SymId → List (List Tree) → List Tree
 over_each f lists = map (λ args. App f args) lists
 
--- the schemas of this weight with a symbol on top, made from those listed
+-- the schemas of this weight with this symbol on top, made from those listed
 abbrev pub applications_of : SigParts → List (List Tree) → ℕ → SymId → Option Sym → List Tree
 applications_of parts levels weight f None = []
 applications_of parts levels weight f (Some symbol) =
@@ -59,6 +59,7 @@ applications_of parts levels weight f (Some symbol) =
     then over_each f (rows_of (of_weight parts levels) (args_of symbol) (weight - weight_at parts f))
     else []
 
+-- the same for a symbol by its number
 abbrev pub applications : SigParts → List (List Tree) → ℕ → SymId → List Tree
 applications parts levels weight f = applications_of parts levels weight f (symbol_at parts f)
 
@@ -79,11 +80,12 @@ levels_to parts (suc n) = levels_to parts n ++ level parts (levels_to parts n) (
 abbrev pub variables_of : SigParts → SortId → List Tree
 variables_of parts sort = each_below (vars_at parts sort) (λ i. Var sort i ∷ [])
 
--- the instances of a schema: each of its holes filled with each variable of its sort, the first hole counting most
+-- each hole filled with each variable of its sort
 abbrev pub instances_step : SigParts → Tree-F (List Tree) → List Tree
 instances_step parts (o.Var sort index) = variables_of parts sort
 instances_step parts (o.App head lists) = over_each head (choices lists)
 
+-- the instances of a schema: each of its holes filled with each variable of its sort, the first hole counting most
 abbrev pub instances : SigParts → Tree → List Tree
 instances parts = fold-Tree (List Tree) (instances_step parts)
 

@@ -1,5 +1,5 @@
 -- The signatures that `plain` takes so far: one sort of constants, and functions without calls.
-use Rattle.std.specs.Prelude.{◌≡◌, ℕ, ◌≤◌, List, [], ◌∷◌, length}
+use Rattle.std.specs.Prelude.{◌≡◌, ◌≤◌, List, [], ◌∷◌, length}
 use Rattle.law_sig.specs.Lists.{Each}
 use Rattle.law_sig.specs.Tests.{Pools}
 use Rattle.law_sig.specs.declared.tree.Tree.{Tree}
@@ -13,13 +13,14 @@ use Rattle.law_sig.specs.declared.parts.PoolRule.{PoolRule}
 use Rattle.law_sig.specs.declared.parts.PoolRule.TheVariants as rule
 use Rattle.law_sig.specs.declared.parts.SigParts.{SigParts}
 
--- a parameter, or a constructor without fields
+-- a parameter, or a symbol over no arguments, which is made
 abbrev pub IsAtomStep : Body-F Body → Type 0
 IsAtomStep (b.Field number) = ⊥
 IsAtomStep (b.Param number) = Unit {0}
 IsAtomStep (b.Make head args) = args ≡ []
 IsAtomStep (b.Call head args) = ⊥
 
+-- a body that is one of these
 abbrev pub IsAtom : Body → Type 0
 IsAtom body = IsAtomStep (out-Body body)
 
@@ -28,6 +29,7 @@ abbrev pub IsConstant : Sym → Type 0
 IsConstant (sym.Con con) = con.args ≡ []
 IsConstant (sym.Fun fun) = Each IsAtom fun.cases
 
+-- one sort of constants, functions without calls, and small settings with one listed pool
 pub record IsFirstProfile (parts : SigParts) : Type 0 where
   pub one_sort : length parts.sort_names ≡ 1
   pub few_symbols : length parts.symbols ≤ 16

@@ -14,3 +14,6 @@ pub use explore::universe;
 pub use firsts::first_same;
 pub use law_list::plain;
 pub use laws::equations;
+
+#[cfg(test)]
+mod tests;

@@ -108,6 +108,9 @@ fn rows_of(
             continue;
         }
         let below = rows_of(alloc, sig, levels, rest, weight - lighter)?;
+        if below.len() == 0 {
+            continue;
+        }
         push_crossed_of(alloc, sig, *first, &mut found, terms, below.as_slice())?;
     }
     Ok(found)

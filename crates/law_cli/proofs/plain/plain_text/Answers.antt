@@ -1,7 +1,6 @@
-use Rattle.std.proofs.Common.{◌≡◌, List, Some, sym, subst, ◌∙◌}
+use Rattle.std.proofs.Common.{◌≡◌, List, sym, subst, ◌∙◌}
 use Rattle.law_read.specs.declared.raw.RawLine.{RawLine}
 use Rattle.law_laws.proofs.BodyFacts.{some_is, none_is}
-use Rattle.law_cli.specs.Small.{IsSmall}
 use Rattle.law_cli.specs.SmallTypes.{IsSmallTyped}
 use Rattle.law_cli.proofs.SmallPlain.{small_plain}
 use Rattle.law_cli.proofs.plain.plain_text.Goals as goal

@@ -1,4 +1,4 @@
-use Rattle.std.proofs.Common.{◌≡◌, ◌∷◌, [], List, ℕ, length, map, string_bytes, codes, arith, sym, ap, ◌∙◌}
+use Rattle.std.proofs.Common.{◌≡◌, ◌∷◌, [], length, map, string_bytes, arith, sym, ap, ◌∙◌}
 use Rattle.law_cli.proofs.TopFacts.{one_item, same_head}
 use Rattle.law_cli.proofs.top.is_plain.Goals as goal
 

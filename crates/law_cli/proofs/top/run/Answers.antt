@@ -1,4 +1,4 @@
-use Rattle.std.proofs.Common.{◌≡◌, inr, refl, subst, rules}
+use Rattle.std.proofs.Common.{inr, refl, subst, rules}
 use Rattle.law_io.specs.Takings.{GrewByPrefix}
 use Rattle.law_cli.specs.Printed.{status_text}
 use Rattle.law_cli.specs.declared.status.Status.TheVariants as status

@@ -1,6 +1,6 @@
-use Rattle.std.proofs.Common.{◌≡◌, ℕ, map, take}
+use Rattle.std.proofs.Common.{map}
 use Rattle.indexmap.specs.IndexMap.{get}
-use Rattle.law_explore.specs.Firsts.{AreFirsts, KnowsBefore, same_items}
+use Rattle.law_explore.specs.Firsts.{KnowsBefore, same_items}
 use Rattle.law_explore.proofs.FirstFacts.{FirstsTo}
 use Rattle.law_explore.proofs.firsts.first_same.Given as goal
 

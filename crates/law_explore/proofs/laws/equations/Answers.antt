@@ -1,4 +1,4 @@
-use Rattle.std.proofs.Common.{◌≡◌, ◌<◌, length, slice_index_or, arith, sym, ap, ◌∙◌}
+use Rattle.std.proofs.Common.{arith}
 use Rattle.law_explore.proofs.EquationFacts.{same_place, other_place}
 use Rattle.law_explore.proofs.laws.equations.Goals as goal
 

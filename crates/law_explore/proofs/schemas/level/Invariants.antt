@@ -1,5 +1,4 @@
 use Rattle.std.proofs.Common.{◌≡◌, ◌++◌, length}
-use Rattle.law_sig.specs.declared.tree.SymId.{SymId}
 use Rattle.law_explore.specs.Rows.{each_below}
 use Rattle.law_explore.specs.Listing.{applications}
 use Rattle.law_explore.proofs.schemas.level.Given as goal

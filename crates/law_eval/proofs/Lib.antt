@@ -1,0 +1,10 @@
+pub mod Tops
+pub mod Parts
+pub mod StepFacts
+pub mod BodyFacts
+pub mod TookFacts
+pub mod StuckFacts
+pub mod ResultFacts
+pub mod ChosenFacts
+pub mod Chain
+pub mod Outcome

@@ -1,0 +1,9 @@
+use Rattle.std.proofs.Common.{refl}
+use Rattle.law_eval.specs.Work.{todo_of, running}
+use Rattle.law_eval.proofs.Tops.{pushed_twice, same_ids}
+use Rattle.law_value.proofs.Tops.{pushed}
+use Rattle.law_eval.proofs.work.Work.enter.Goals as goal
+
+pub returns-clause-ok : goal.returns-clause-ok
+returns-clause-ok c =
+    same_ids (pushed_twice todo_of _ _ _ _ _ c.in_ok-push-2.ensures.items c.in_ok-push-3.ensures.items) refl (pushed running _ _ _ c.in_ok-push.ensures.items) refl

@@ -1,0 +1,5 @@
+pub mod First
+pub mod ChoiceFacts
+pub mod Turns
+pub mod DrawFacts
+pub mod PoolFacts

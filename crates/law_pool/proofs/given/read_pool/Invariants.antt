@@ -1,0 +1,7 @@
+use Rattle.std.proofs.Common.{take}
+use Rattle.law_value.specs.Values.{AreOf, trees_of}
+use Rattle.law_pool.proofs.Reading.{Reads}
+use Rattle.law_pool.proofs.given.read_pool.Given as goal
+
+abbrev pub invariant-loop-values : goal.invariant-loop-values
+invariant-loop-values l = Reads AreOf trees_of l.initial.bank l.bank l.sorts (take l.values-index l.pool)

@@ -1,0 +1,8 @@
+//! Pools of test values, and the tests that give the variables their values from them.
+#![tactic(auto)]
+
+mod given;
+mod pools;
+
+pub use given::given_pools;
+pub use pools::Pools;

@@ -1,0 +1,5 @@
+pub mod BankFacts
+pub mod CellFacts
+pub mod ReadFacts
+pub mod Tops
+pub mod WriteFacts

@@ -1,0 +1,8 @@
+//! Values of declared sorts, each kept once: a bank holds every value that was made in it under a number of its own.
+#![tactic(auto)]
+
+mod bank;
+#[cfg(test)]
+mod tests;
+
+pub use bank::{ValueBank, ValueId};
