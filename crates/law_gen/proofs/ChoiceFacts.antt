@@ -1,9 +1,9 @@
 -- Which constructors may be chosen.
-use Rattle.std.proofs.Common.{◌≡◌, ℕ, zero, suc, ◌+◌, ◌<◌, ◌≤◌, Bool, true, false, ◌&&◌, ◌||◌, cond, if◌then◌else◌, IsTrue, Option, Some, None, option_map, slice_get, List, [], ◌∷◌, ◌++◌, length, take, slice_index_or, sym, refl, ap, ap₂, ◌∙◌, subst, arith, zero-add, ltb-true}
+use Rattle.std.proofs.Common.{◌≡◌, ℕ, zero, suc, ◌+◌, ◌<◌, ◌≤◌, Bool, true, false, ◌&&◌, ◌||◌, cond, if◌then◌else◌, Option, Some, None, option_map, slice_get, List, [], ◌∷◌, ◌++◌, length, take, slice_index_or, sym, refl, ap, ap₂, ◌∙◌, subst, arith, zero-add, ltb-true}
 use Rattle.std.specs.List.{list_all, list_any, filter}
 use Rattle.law_sig.specs.Lists.{Each}
 use Rattle.law_sig.specs.Trees.{same_sort}
-use Rattle.law_sig.specs.Signature.{symbol_at, args_of, makes_sort, constructors, constructors_from, is_declared_sort}
+use Rattle.law_sig.specs.Signature.{symbol_at, args_of, makes_sort, constructors, constructors_from}
 use Rattle.law_sig.specs.WellFormed.{makes_from, is_within_height, IsDeclared, IsWellFormed}
 use Rattle.law_sig.specs.declared.tree.SortId.{SortId}
 use Rattle.law_sig.specs.declared.tree.SymId.{SymId}

@@ -1,5 +1,5 @@
 -- The constructor that a word chooses, and what its value is.
-use Rattle.std.proofs.Common.{◌≡◌, ℕ, zero, suc, ◌+◌, ◌-◌, ◌%◌, ◌<◌, ◌≤◌, Bool, true, false, ◌&&◌, cond, IsTrue, Option, Some, None, option_map, List, [], ◌∷◌, length, map, slice_get, slice_index_or, sym, refl, ap, ap₂, ◌∙◌, subst, arith, ltb-true, lt-ltb, ◌++◌}
+use Rattle.std.proofs.Common.{◌≡◌, ℕ, zero, suc, ◌+◌, ◌-◌, ◌%◌, ◌<◌, ◌≤◌, Bool, true, false, cond, Some, option_map, List, [], ◌∷◌, length, map, slice_index_or, sym, refl, ap, ap₂, ◌∙◌, subst, arith, ltb-true, lt-ltb, ◌++◌}
 use Rattle.std.proofs.Math.Nat.{mod-lt}
 use Rattle.std.specs.List.{list_all, filter}
 use Rattle.rand_pcg.specs.Lcg.{Lcg}
@@ -17,7 +17,7 @@ use Rattle.law_sig.specs.declared.parts.SigParts.{SigParts}
 use Rattle.law_laws.proofs.Sorts.{both_true}
 use Rattle.law_laws.proofs.TreeFacts.{tree_cases, nodes-Var, nodes-App}
 use Rattle.law_gen.specs.Draws.{sorts_in, fits_over, choices, no_symbol, chosen, Drawn, in_turn, value_drawn}
-use Rattle.law_gen.specs.Choices.{level_of, table_of, is_some_choice}
+use Rattle.law_gen.specs.Choices.{level_of, is_some_choice}
 use Rattle.law_gen.specs.Made.{IsReady, WhereLarge}
 use Rattle.law_gen.specs.declared.error.Stop.{Stop}
 use Rattle.law_gen.specs.declared.error.Stop.TheVariants as stop

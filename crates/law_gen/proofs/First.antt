@@ -1,5 +1,5 @@
 -- Lists of something for each number below a bound.
-use Rattle.std.proofs.Common.{◌≡◌, ℕ, zero, suc, ◌+◌, ◌<◌, List, [], ◌∷◌, ◌++◌, length, drop, slice_index_or, sym, refl, ap, ◌∙◌, arith}
+use Rattle.std.proofs.Common.{◌≡◌, ℕ, zero, suc, ◌+◌, ◌<◌, [], ◌∷◌, ◌++◌, length, drop, slice_index_or, refl, ap, ◌∙◌, arith}
 use Rattle.law_sig.specs.Tests.{first_of}
 
 first_snoc : {A : Type 0} (n : ℕ) (f : ℕ → A) → first_of (suc n) f ≡ first_of n f ++ f n ∷ []

@@ -1,5 +1,5 @@
 -- Values of a sort, sorts of a pool, and pools.
-use Rattle.std.proofs.Common.{◌≡◌, ℕ, zero, suc, ◌+◌, ◌<◌, ◌≤◌, List, [], ◌∷◌, ◌++◌, map, length, take, slice_get, slice_index_or, Some, sym, refl, ap, ap₂, ◌∙◌, subst, arith, ltb-true}
+use Rattle.std.proofs.Common.{◌≡◌, ℕ, zero, suc, ◌+◌, ◌<◌, ◌≤◌, List, [], ◌∷◌, ◌++◌, map, length, take, slice_get, slice_index_or, sym, refl, ap, ap₂, ◌∙◌, subst, arith, ltb-true}
 use Rattle.rand_pcg.specs.Lcg.{Lcg}
 use Rattle.law_sig.specs.Lists.{Each, In}
 use Rattle.law_sig.specs.Trees.{node_count}

@@ -17,3 +17,4 @@ pub mod Enumeration
 pub mod Inversion
 pub mod Filling
 pub mod Spelled
+pub mod Listed

@@ -5,3 +5,4 @@ pub mod Derivation
 pub mod Agreement
 pub mod Renaming
 pub mod Filling
+pub mod Counting

@@ -1,6 +1,8 @@
 //! Laws of the definitions of `law_sig`: each function has an empty body, and its contract is the law.
 #![tactic(auto)]
 
+mod counting;
+
 ghost use Rattle.law_laws.specs.Agreement.{AgreementIsPartialEquivalence, LeastTellsValues, OneLawList};
 ghost use Rattle.law_laws.specs.Application.{ComputedIsGiven, GivenIsComputed, OneValue, DepthChangesNothing, BudgetBoundsCost};
 ghost use Rattle.law_laws.specs.Coverage.{ListCovers, LeastExists, ListInBudgetCovers};
@@ -8,6 +10,8 @@ ghost use Rattle.law_laws.specs.Derivation.{DerivationKeepsSorts, InstancesAreDe
 ghost use Rattle.law_laws.specs.Filling.{NumberedTermsFill};
 ghost use Rattle.law_laws.specs.Orders.{OrdersAreSpelled, ExploringFollowsWeight, OrdersAreTotal, EqualIsSame, FallsWithArgument, DescentsEnd};
 ghost use Rattle.law_laws.specs.Renaming.{TestsAreRenamed, FlatTestsSeeSchemas};
+
+pub use counting::counting_laws;
 
 /// The law list covers, where every term of the universe has a value at every test and a least one; and each has a least
 /// one where nothing is over budget.

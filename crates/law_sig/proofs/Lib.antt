@@ -1,2 +1,4 @@
 pub mod SizeFacts
 pub mod SortFacts
+pub mod CountFacts
+pub mod TermCounts

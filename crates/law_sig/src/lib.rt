@@ -1,6 +1,7 @@
 //! Signatures of algebraic types and of functions by structural recursion, and the terms over them.
 #![tactic(auto)]
 
+mod counts;
 mod parts;
 mod seq;
 mod sig;

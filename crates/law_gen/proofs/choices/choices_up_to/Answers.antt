@@ -1,4 +1,4 @@
-use Rattle.std.proofs.Common.{◌≡◌, List, ℕ, suc, ◌+◌, ◌<◌, ◌++◌, ◌∷◌, [], length, slice_index_or, ap, ◌∙◌, sym, ap₂, arith}
+use Rattle.std.proofs.Common.{◌≡◌, List, ℕ, suc, ◌+◌, ◌++◌, ◌∷◌, [], length, slice_index_or, ap, ◌∙◌, sym, ap₂, arith}
 use Rattle.law_sig.specs.declared.parts.SigParts.{SigParts}
 use Rattle.law_sig.specs.declared.tree.SymId.{SymId}
 use Rattle.law_gen.specs.Draws.{choices}

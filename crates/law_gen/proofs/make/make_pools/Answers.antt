@@ -1,6 +1,5 @@
-use Rattle.std.proofs.Common.{◌≡◌, ◌<◌, ◌≤◌, ◌^◌, length, sym, ap, ◌∙◌, subst, arith}
+use Rattle.std.proofs.Common.{sym, ap, ◌∙◌, subst, arith}
 use Rattle.law_sig.specs.WellFormed.{IsSeeded, IsPoolRule}
-use Rattle.law_sig.specs.declared.parts.PoolRule.TheVariants as rule
 use Rattle.law_sig.specs.declared.parts.Settings.{Settings}
 use Rattle.law_pool.proofs.GivenFacts.{ids_shape, ids_count}
 use Rattle.law_gen.specs.Draws.{pools_drawn, generator_of}

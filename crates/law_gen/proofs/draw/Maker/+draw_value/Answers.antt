@@ -1,4 +1,4 @@
-use Rattle.std.proofs.Common.{◌≡◌, ℕ, ◌+◌, ◌-◌, ◌<◌, ◌≤◌, true, length, drop, slice_index_or, sym, refl, ap, ◌∙◌, subst, arith}
+use Rattle.std.proofs.Common.{◌≡◌, ℕ, ◌+◌, ◌-◌, true, length, drop, slice_index_or, sym, refl, ap, ◌∙◌, arith}
 use Rattle.std.proofs.lemmas.Result.{err_from_is_err_and}
 use Rattle.rand_pcg.specs.Lcg.{Lcg}
 use Rattle.law_sig.specs.WellFormed.{is_within_height}
@@ -7,7 +7,7 @@ use Rattle.law_value.specs.Values.{IsOf, tree_of, trees_of}
 use Rattle.law_value.proofs.ReadFacts.{length_map}
 use Rattle.law_pool.proofs.Reading.{id_keeps}
 use Rattle.law_gen.specs.Draws.{chosen, in_turn, value_drawn}
-use Rattle.law_gen.proofs.Turns.{Going, going_here, going_more, going_last, means_more, at_next, drop_past}
+use Rattle.law_gen.proofs.Turns.{going_here, going_more, going_last, means_more, at_next, drop_past}
 use Rattle.law_gen.proofs.DrawFacts.{height_within, sort_within, looked_up, some_within, word_within, above_zero, chosen_within, drawing, each_index, some_node, large_field, room_more, room_whole, in_turn_length, large_on, sort_declared, lower}
 use Rattle.law_gen.proofs.draw.Maker.+draw_value.Goals as goal
 

@@ -1,4 +1,4 @@
-use Rattle.std.proofs.Common.{◌≡◌, ℕ, ◌+◌, ◌<◌, ◌≤◌, List, [], ◌∷◌, map, length, drop, sym, refl, ap, ◌∙◌, subst, arith}
+use Rattle.std.proofs.Common.{ℕ, ◌+◌, ◌<◌, List, map, drop, sym, ◌∙◌, subst, arith}
 use Rattle.std.proofs.lemmas.Result.{err_from_is_err_and}
 use Rattle.rand_pcg.specs.Lcg.{Lcg}
 use Rattle.law_sig.specs.Lists.{Each}
@@ -9,7 +9,7 @@ use Rattle.law_value.specs.Values.{AreOf, trees_of}
 use Rattle.law_pool.specs.Table.{pools_of}
 use Rattle.law_pool.proofs.Reading.{sorts_keep}
 use Rattle.law_gen.specs.Draws.{Drawn, pool_drawn, pools_drawn, generator_of}
-use Rattle.law_gen.specs.Sizes.{AreSmall, IsFirst}
+use Rattle.law_gen.specs.Sizes.{AreSmall}
 use Rattle.law_gen.proofs.First.{first_from, first_past}
 use Rattle.law_gen.proofs.Turns.{going_here, going_more, going_last, each_means}
 use Rattle.law_gen.proofs.PoolFacts.{first_of_all, length_more, length_map, too_large_on}
