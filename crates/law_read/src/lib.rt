@@ -2,11 +2,28 @@
 #![tactic(auto)]
 
 mod copy;
+mod error;
+mod laws;
+mod line;
+mod part;
 mod raw;
+mod read;
 mod shape;
 mod sig;
+mod sig_lines;
+mod stage;
+mod take;
+mod term;
+mod want;
 mod write;
 
+pub use error::{ReadErr, ReadKind};
+pub use laws::{refused_texts_are_none, spelled_lines_are_read};
 pub use raw::{RawHead, RawLine, RawTerm};
+pub use read::{read_sig, read_term};
 pub use sig::RawSig;
+pub use sig_lines::SigLines;
 pub use write::{write_lines, write_sig, write_term};
+
+#[cfg(test)]
+mod tests;

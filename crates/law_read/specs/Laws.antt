@@ -1,0 +1,29 @@
+-- Laws of the texts, each proved by the contract of a function in `src/laws.rt`.
+use Rattle.std.specs.Prelude.{◌≡◌, ℕ, true, List, [], ◌∷◌, None}
+use Rattle.law_text.specs.Pieces.{pieces}
+use Rattle.law_read.specs.declared.raw.RawLine.{RawLine}
+use Rattle.law_read.specs.declared.want.Want.TheVariants as w
+use Rattle.law_read.specs.declared.want.Bounds.TheVariants.{Kept}
+use Rattle.law_read.specs.declared.stage.Stage.{Stage}
+use Rattle.law_read.specs.Spelling.{line_spelling, sig_spelling}
+use Rattle.law_read.specs.Signature.{IsRawSig}
+use Rattle.law_read.specs.Texts.{FirstFault}
+use Rattle.law_read.specs.declared.error.ReadKind.{ReadKind}
+use Rattle.law_read.specs.Lines.{IsLine}
+use Rattle.law_read.specs.Stages.{IsOfVersion, allows, line_key}
+use Rattle.law_read.specs.Walk.{walk}
+use Rattle.law_read.specs.Faults.{line_fault}
+
+-- A line that may come at a stage and that the grammar spells is read to its end.
+abbrev pub SpelledIsWalked : Type 0
+SpelledIsWalked = (stage : Stage) (line : RawLine) → allows stage (line_key line) ≡ true → IsOfVersion stage.version line → IsLine Kept line
+    → walk 0 (w.Key stage ∷ []) (pieces (line_spelling line)) ≡ None
+
+-- It has no fault. So a line that has one is the spelling of no line that may come at the stage.
+abbrev pub SpelledIsRead : Type 0
+SpelledIsRead = (stage : Stage) (line : RawLine) → allows stage (line_key line) ≡ true → IsOfVersion stage.version line → IsLine Kept line
+    → line_fault stage (line_spelling line) ≡ None
+
+-- A text with a first fault is the spelling of no signature.
+abbrev pub RefusedIsNoText : Type 0
+RefusedIsNoText = (text : List ℕ) (number : ℕ) (kind : ReadKind) → FirstFault text number kind → (lines : List RawLine) → IsRawSig lines → sig_spelling lines ≡ text → ⊥

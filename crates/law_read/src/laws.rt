@@ -1,0 +1,12 @@
+ghost use Rattle.law_read.specs.Laws.{RefusedIsNoText, SpelledIsRead, SpelledIsWalked};
+
+/// Each line that may come at a stage and that the grammar spells is read to its end, and has no fault.
+pub fn spelled_lines_are_read()
+    ensures walked { SpelledIsWalked }
+    ensures read { SpelledIsRead }
+{}
+
+/// A text that is refused is the spelling of no signature.
+pub fn refused_texts_are_none()
+    ensures { RefusedIsNoText }
+{}
