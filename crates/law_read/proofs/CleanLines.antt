@@ -3,7 +3,7 @@ use Rattle.std.proofs.Common.{◌≡◌, ℕ, ◌<◌, Bool, true, false, List, 
 use Rattle.std.proofs.lemmas.Bool.Decides.{nat_tests}
 use Rattle.std.proofs.lemmas.List.{append-nil}
 use Rattle.std.specs.List.{list_all, AllByRecursion}
-use Rattle.law_text.specs.Pieces.{pieces}
+use Rattle.law_text.specs.Pieces.{is_plain, pieces}
 use Rattle.law_read.specs.declared.raw.RawTerm.{RawTerm}
 use Rattle.law_read.specs.declared.raw.RawLine.{RawLine}
 use Rattle.law_read.specs.declared.raw.RawLine.TheVariants as l
@@ -23,55 +23,23 @@ use Rattle.law_read.specs.Faults.{is_closed_by, is_printed, is_spaced, kind_in_o
 use Rattle.law_read.specs.Laws.{SpelledIsRead}
 use Rattle.law_read.proofs.RowSteps.{both}
 use Rattle.law_read.proofs.Clean.{IsClean, clean_arg, clean_name, clean_number, clean_spaced, clean_term, clean_word, is_graphic, printed_append}
+use Rattle.law_read.proofs.LineWords.{Covers, words_hold}
 use Rattle.law_read.proofs.AgainLines.{line_on}
 
 positive : (n : ℕ) → nat_lt 0 n ≡ true → 0 < n
 positive n h = grind (arith, nat_tests)
 
-clean_text : (bytes : List ℕ) → nat_lt 0 (length bytes) ≡ true → list_all is_graphic bytes ≡ true → IsClean bytes
-clean_text bytes some h = clean_word bytes (positive (length bytes) some) h
-
-clean_names : (names : List (List ℕ)) → list_all (is_name_in Kept) names ≡ true → AllByRecursion IsClean names
-clean_names [] h = tt
-clean_names (x ∷ names) h = let q = both (is_name_in Kept x) (list_all (is_name_in Kept) names) h in (clean_name x q.0, clean_names names q.1)
-
-clean_values : (terms : List RawTerm) → AreValues Kept terms → AllByRecursion IsClean (map arg_spelling terms)
-clean_values [] h = tt
-clean_values (x ∷ terms) h = (clean_arg x p.Value h.0.nodes, clean_values terms h.1)
-
-clean_append : (xs ys : List (List ℕ)) → AllByRecursion IsClean xs → AllByRecursion IsClean ys → AllByRecursion IsClean (xs ++ ys)
-clean_append [] ys h g = g
-clean_append (x ∷ xs) ys h g = (h.0, clean_append xs ys h.1 g)
+cleans : Covers IsClean
+cleans = record {
+  text = λ bytes h. let q = both (nat_lt 0 (length bytes)) _ h in clean_word bytes (positive (length bytes) q.0) (both (list_all is_graphic bytes) (list_all is_plain bytes) q.1).0;
+  number = clean_number;
+  name = clean_name;
+  arg = λ term h. clean_arg term p.Value h.nodes;
+  term = clean_term;
+}
 
 pub clean_words : (line : RawLine) → IsLine Kept line → AllByRecursion IsClean (line_words line)
-clean_words l.Head h = (clean_text (codes "signature") refl refl, (clean_text (codes "1") refl refl, tt))
-clean_words l.Head2 h = (clean_text (codes "signature") refl refl, (clean_text (codes "2") refl refl, tt))
-clean_words l.Head3 h = (clean_text (codes "signature") refl refl, (clean_text (codes "3") refl refl, tt))
-clean_words (l.Vars n) h = (clean_text (codes "vars") refl refl, (clean_number n h, tt))
-clean_words (l.Size n) h = (clean_text (codes "size") refl refl, (clean_number n h, tt))
-clean_words (l.Width n) h = (clean_text (codes "width") refl refl, (clean_number n h, tt))
-clean_words (l.Budget n) h = (clean_text (codes "budget") refl refl, (clean_number n h, tt))
-clean_words (l.Pairs n) h = (clean_text (codes "pairs") refl refl, (clean_number n h, tt))
-clean_words l.PoolsGiven h = (clean_text (codes "pools") refl refl, (clean_text (codes "given") refl refl, tt))
-clean_words (l.PoolsSeed seed height count) h =
-    (clean_text (codes "pools") refl refl, (clean_text (codes "seed") refl refl, (clean_number seed h.0, (clean_text (codes "height") refl refl, (clean_number height h.1, (clean_text (codes "count") refl refl, (clean_number count h.2, tt)))))))
-clean_words (l.SortLine name) h = (clean_text (codes "sort") refl refl, (clean_name name h, tt))
-clean_words (l.SortLine2 name vars width) h = (clean_text (codes "sort") refl refl, (clean_name name h.0, (clean_number vars h.1, (clean_number width h.2, tt))))
-clean_words (l.ConLine name args) h = (clean_text (codes "con") refl refl, (clean_name name h.0, clean_names args h.1.names))
-clean_words (l.ConLine3 weight name args) h = (clean_text (codes "con") refl refl, (clean_number weight h.0, (clean_name name h.1, clean_names args h.2.names)))
-clean_words (l.FunLine name args result) h =
-    (clean_text (codes "fun") refl refl, (clean_name name h.0, clean_append args (codes "->" ∷ result ∷ []) (clean_names args h.1.names) (clean_text (codes "->") refl refl, (clean_name result h.2, tt))))
-clean_words (l.FunLine3 weight name args result) h =
-    (clean_text (codes "fun") refl refl, (clean_number weight h.0, (clean_name name h.1, clean_append args (codes "->" ∷ result ∷ []) (clean_names args h.2.names) (clean_text (codes "->") refl refl, (clean_name result h.3, tt)))))
-clean_words (l.MatchLine n) h = (clean_text (codes "match") refl refl, (clean_number n h, tt))
-clean_words (l.BodyLine body) h = (clean_text (codes "body") refl refl, (clean_text (codes "=") refl refl, clean_term p.Body body h))
-clean_words (l.CaseLine con body) h = (clean_text (codes "case") refl refl, (clean_name con h.0, (clean_text (codes "=") refl refl, clean_term p.Body body h.1)))
-clean_words (l.Explore names) h = (clean_text (codes "explore") refl refl, clean_names names h)
-clean_words (l.Background left right) h =
-    (clean_text (codes "background") refl refl, clean_append (term_words left) (codes "=" ∷ term_words right) (clean_term p.Equation left h.0) (clean_text (codes "=") refl refl, clean_term p.Equation right h.1))
-clean_words l.Pool h = (clean_text (codes "pool") refl refl, tt)
-clean_words (l.Values sort values) h = (clean_text (codes "values") refl refl, (clean_name sort h.0, clean_values values h.2))
-clean_words l.End h = (clean_text (codes "end") refl refl, tt)
+clean_words line h = words_hold IsClean cleans line h
 
 spaced_of : (bytes : List ℕ) → spaces_fit true bytes ≡ true → is_spaced bytes ≡ true
 spaced_of [] h = refl

@@ -6,6 +6,8 @@ pub mod AgainLines
 pub mod Clean
 pub mod CleanLines
 pub mod Cuts
+pub mod OneLine
+pub mod OneTerm
 pub mod OrderRows
 pub mod Orders
 pub mod Parts
@@ -13,6 +15,7 @@ pub mod RowNames
 pub mod RowSteps
 pub mod RowWhole
 pub mod LineSteps
+pub mod LineWords
 pub mod Grown
 pub mod Spaced
 pub mod Walks

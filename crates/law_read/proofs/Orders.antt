@@ -20,17 +20,17 @@ use Rattle.law_read.proofs.RowSteps.{both}
 use Rattle.law_read.proofs.OrderRows.{Row, Same, same, and_same, either_same, last_same, series_same, choice_same, many_same, some_same, end_same, first, first_is, first_not}
 
 -- the shapes of a version
-abbrev sort_of : Version → Shape
+abbrev pub sort_of : Version → Shape
 sort_of First = s.SortLine
 sort_of Second = s.SortLine2
 sort_of Third = s.SortLine2
 
-abbrev con_of : Version → Shape
+abbrev pub con_of : Version → Shape
 con_of First = s.ConLine
 con_of Second = s.ConLine
 con_of Third = s.ConLine3
 
-abbrev fun_of : Version → Shape
+abbrev pub fun_of : Version → Shape
 fun_of First = s.FunLine
 fun_of Second = s.FunLine
 fun_of Third = s.FunLine3

@@ -18,13 +18,12 @@ use Rattle.law_read.specs.Stages.{IsOfVersion, allows, key_text, line_key, stage
 use Rattle.law_read.specs.Signature.{IsRawSig}
 use Rattle.law_read.specs.Stages.{InOrder, start, stage_behind}
 use Rattle.law_read.specs.Walk.{key_of}
-use Rattle.law_read.specs.Laws.{RefusedIsNoText}
+use Rattle.law_read.specs.Laws.{OneText, RefusedIsNoText}
 use Rattle.law_read.specs.Faults.{is_printed, line_fault}
 use Rattle.law_read.specs.Texts.{FirstLine, LineFault, Unfinished, has_feed}
 use Rattle.law_read.proofs.Orders.{spelled_in_order}
 use Rattle.law_read.proofs.RowSteps.{both}
-use Rattle.law_read.proofs.Again.{is_solid, solid_first}
-use Rattle.law_read.proofs.AgainLines.{apart_words, key_again, key_solid}
+use Rattle.law_read.proofs.OneLine.{one_line}
 use Rattle.law_read.proofs.CleanLines.{clean_joined, clean_words, line_read_law}
 
 -- a line has no line feed in it
@@ -53,239 +52,6 @@ same_line (x ∷ xs) [] us vs h g e = let q = or_none (x == 10) (has_feed xs) h 
 same_line (x ∷ xs) (y ∷ ys) us vs h g e =
     let f : x ≡ y = cc in let k : xs ++ 10 ∷ us ≡ ys ++ 10 ∷ vs = cc in
     let r = same_line xs ys us vs (or_none (x == 10) (has_feed xs) h).1 (or_none (y == 10) (has_feed ys) g).1 k in (cc, r.1)
-
--- a line's key is its first word
-abbrev rest_of : List (List ℕ) → List (List ℕ)
-rest_of [] = []
-rest_of (w ∷ ws) = ws
-
-key_first : (line : RawLine) → line_spelling line ≡ key_text (line_key line) ++ spaced (rest_of (line_words line))
-key_first l.Head = refl
-key_first l.Head2 = refl
-key_first l.Head3 = refl
-key_first (l.Vars n) = refl
-key_first (l.Size n) = refl
-key_first (l.Width n) = refl
-key_first (l.Budget n) = refl
-key_first (l.Pairs n) = refl
-key_first l.PoolsGiven = refl
-key_first (l.PoolsSeed a b c) = refl
-key_first (l.SortLine n) = refl
-key_first (l.SortLine2 n a b) = refl
-key_first (l.ConLine n a) = refl
-key_first (l.ConLine3 w n a) = refl
-key_first (l.FunLine n a r) = refl
-key_first (l.FunLine3 w n a r) = refl
-key_first (l.MatchLine n) = refl
-key_first (l.BodyLine t) = refl
-key_first (l.CaseLine c t) = refl
-key_first (l.Explore n) = refl
-key_first (l.Background a b) = refl
-key_first l.Pool = refl
-key_first (l.Values s v) = refl
-key_first l.End = refl
-
-abbrev first_bytes : List Piece → List ℕ
-first_bytes (word bytes ∷ ps) = bytes
-first_bytes ps = []
-
-key_word : (line : RawLine) → first_bytes (pieces (line_spelling line)) ≡ key_text (line_key line)
-key_word line = ap (λ x. first_bytes (pieces x)) (key_first line)
-    ∙ ap first_bytes (solid_first (key_text (line_key line)) (spaced (rest_of (line_words line))) (key_solid (line_key line)) (apart_words (rest_of (line_words line))))
-
-some_key : (a b : Key) → Some a ≡ Some b → a ≡ b
-some_key a b h = cc
-
-same_key_of : (x y : RawLine) → line_spelling x ≡ line_spelling y → line_key x ≡ line_key y
-same_key_of x y e =
-    let t = sym (key_word x) ∙ ap (λ z. first_bytes (pieces z)) e ∙ key_word y in
-    some_key (line_key x) (line_key y) (sym (key_again (line_key x)) ∙ ap key_of t ∙ key_again (line_key y))
-
--- what a line leads to, by its key, where it is neither the first line nor that of the pools
-abbrev leads : Stage → Key → Stage
-leads stage k = record { version = stage.version; given = stage.given; last = Some k }
-
-abbrev is_turn : Key → Bool
-is_turn key.Signature = true
-is_turn key.Pools = true
-is_turn k = false
-
-leads_to : (stage : Stage) (x : RawLine) → is_turn (line_key x) ≡ false → stage_after stage x ≡ leads stage (line_key x)
-leads_to stage l.Head h = absurd cc
-leads_to stage l.Head2 h = absurd cc
-leads_to stage l.Head3 h = absurd cc
-leads_to stage l.PoolsGiven h = absurd cc
-leads_to stage (l.PoolsSeed a b c) h = absurd cc
-leads_to stage (l.Vars n) h = refl
-leads_to stage (l.Size n) h = refl
-leads_to stage (l.Width n) h = refl
-leads_to stage (l.Budget n) h = refl
-leads_to stage (l.Pairs n) h = refl
-leads_to stage (l.SortLine n) h = refl
-leads_to stage (l.SortLine2 n a b) h = refl
-leads_to stage (l.ConLine n a) h = refl
-leads_to stage (l.ConLine3 w n a) h = refl
-leads_to stage (l.FunLine n a r) h = refl
-leads_to stage (l.FunLine3 w n a r) h = refl
-leads_to stage (l.MatchLine n) h = refl
-leads_to stage (l.BodyLine t) h = refl
-leads_to stage (l.CaseLine c t) h = refl
-leads_to stage (l.Explore n) h = refl
-leads_to stage (l.Background a b) h = refl
-leads_to stage l.Pool h = refl
-leads_to stage (l.Values s v) h = refl
-leads_to stage l.End h = refl
-
-differ : (a b : ℕ) → (a == b) ≡ false → a ≡ b → ⊥
-differ a b h e = grind (arith, nat_tests)
-
-same_turn : (stage : Stage) (x y : RawLine) → is_turn (line_key x) ≡ true → line_key x ≡ line_key y → line_spelling x ≡ line_spelling y → stage_after stage x ≡ stage_after stage y
-same_turn stage l.Head l.Head h k e = refl
-same_turn stage l.Head l.Head2 h k e = absurd (differ _ _ refl (ap (λ z. get_or z 10 0) e))
-same_turn stage l.Head l.Head3 h k e = absurd (differ _ _ refl (ap (λ z. get_or z 10 0) e))
-same_turn stage l.Head l.PoolsGiven h k e = absurd cc
-same_turn stage l.Head (l.PoolsSeed a2 b2 c2) h k e = absurd cc
-same_turn stage l.Head (l.Vars n) h k e = absurd cc
-same_turn stage l.Head (l.Size n) h k e = absurd cc
-same_turn stage l.Head (l.Width n) h k e = absurd cc
-same_turn stage l.Head (l.Budget n) h k e = absurd cc
-same_turn stage l.Head (l.Pairs n) h k e = absurd cc
-same_turn stage l.Head (l.SortLine n) h k e = absurd cc
-same_turn stage l.Head (l.SortLine2 n a2 b2) h k e = absurd cc
-same_turn stage l.Head (l.ConLine n a2) h k e = absurd cc
-same_turn stage l.Head (l.ConLine3 w n a2) h k e = absurd cc
-same_turn stage l.Head (l.FunLine n a2 r) h k e = absurd cc
-same_turn stage l.Head (l.FunLine3 w n a2 r) h k e = absurd cc
-same_turn stage l.Head (l.MatchLine n) h k e = absurd cc
-same_turn stage l.Head (l.BodyLine t) h k e = absurd cc
-same_turn stage l.Head (l.CaseLine c2 t) h k e = absurd cc
-same_turn stage l.Head (l.Explore n) h k e = absurd cc
-same_turn stage l.Head (l.Background a2 b2) h k e = absurd cc
-same_turn stage l.Head l.Pool h k e = absurd cc
-same_turn stage l.Head (l.Values s v) h k e = absurd cc
-same_turn stage l.Head l.End h k e = absurd cc
-same_turn stage l.Head2 l.Head h k e = absurd (differ _ _ refl (ap (λ z. get_or z 10 0) e))
-same_turn stage l.Head2 l.Head2 h k e = refl
-same_turn stage l.Head2 l.Head3 h k e = absurd (differ _ _ refl (ap (λ z. get_or z 10 0) e))
-same_turn stage l.Head2 l.PoolsGiven h k e = absurd cc
-same_turn stage l.Head2 (l.PoolsSeed a2 b2 c2) h k e = absurd cc
-same_turn stage l.Head2 (l.Vars n) h k e = absurd cc
-same_turn stage l.Head2 (l.Size n) h k e = absurd cc
-same_turn stage l.Head2 (l.Width n) h k e = absurd cc
-same_turn stage l.Head2 (l.Budget n) h k e = absurd cc
-same_turn stage l.Head2 (l.Pairs n) h k e = absurd cc
-same_turn stage l.Head2 (l.SortLine n) h k e = absurd cc
-same_turn stage l.Head2 (l.SortLine2 n a2 b2) h k e = absurd cc
-same_turn stage l.Head2 (l.ConLine n a2) h k e = absurd cc
-same_turn stage l.Head2 (l.ConLine3 w n a2) h k e = absurd cc
-same_turn stage l.Head2 (l.FunLine n a2 r) h k e = absurd cc
-same_turn stage l.Head2 (l.FunLine3 w n a2 r) h k e = absurd cc
-same_turn stage l.Head2 (l.MatchLine n) h k e = absurd cc
-same_turn stage l.Head2 (l.BodyLine t) h k e = absurd cc
-same_turn stage l.Head2 (l.CaseLine c2 t) h k e = absurd cc
-same_turn stage l.Head2 (l.Explore n) h k e = absurd cc
-same_turn stage l.Head2 (l.Background a2 b2) h k e = absurd cc
-same_turn stage l.Head2 l.Pool h k e = absurd cc
-same_turn stage l.Head2 (l.Values s v) h k e = absurd cc
-same_turn stage l.Head2 l.End h k e = absurd cc
-same_turn stage l.Head3 l.Head h k e = absurd (differ _ _ refl (ap (λ z. get_or z 10 0) e))
-same_turn stage l.Head3 l.Head2 h k e = absurd (differ _ _ refl (ap (λ z. get_or z 10 0) e))
-same_turn stage l.Head3 l.Head3 h k e = refl
-same_turn stage l.Head3 l.PoolsGiven h k e = absurd cc
-same_turn stage l.Head3 (l.PoolsSeed a2 b2 c2) h k e = absurd cc
-same_turn stage l.Head3 (l.Vars n) h k e = absurd cc
-same_turn stage l.Head3 (l.Size n) h k e = absurd cc
-same_turn stage l.Head3 (l.Width n) h k e = absurd cc
-same_turn stage l.Head3 (l.Budget n) h k e = absurd cc
-same_turn stage l.Head3 (l.Pairs n) h k e = absurd cc
-same_turn stage l.Head3 (l.SortLine n) h k e = absurd cc
-same_turn stage l.Head3 (l.SortLine2 n a2 b2) h k e = absurd cc
-same_turn stage l.Head3 (l.ConLine n a2) h k e = absurd cc
-same_turn stage l.Head3 (l.ConLine3 w n a2) h k e = absurd cc
-same_turn stage l.Head3 (l.FunLine n a2 r) h k e = absurd cc
-same_turn stage l.Head3 (l.FunLine3 w n a2 r) h k e = absurd cc
-same_turn stage l.Head3 (l.MatchLine n) h k e = absurd cc
-same_turn stage l.Head3 (l.BodyLine t) h k e = absurd cc
-same_turn stage l.Head3 (l.CaseLine c2 t) h k e = absurd cc
-same_turn stage l.Head3 (l.Explore n) h k e = absurd cc
-same_turn stage l.Head3 (l.Background a2 b2) h k e = absurd cc
-same_turn stage l.Head3 l.Pool h k e = absurd cc
-same_turn stage l.Head3 (l.Values s v) h k e = absurd cc
-same_turn stage l.Head3 l.End h k e = absurd cc
-same_turn stage l.PoolsGiven l.Head h k e = absurd cc
-same_turn stage l.PoolsGiven l.Head2 h k e = absurd cc
-same_turn stage l.PoolsGiven l.Head3 h k e = absurd cc
-same_turn stage l.PoolsGiven l.PoolsGiven h k e = refl
-same_turn stage l.PoolsGiven (l.PoolsSeed a2 b2 c2) h k e = absurd (differ _ _ refl (ap (λ z. get_or z 6 0) e))
-same_turn stage l.PoolsGiven (l.Vars n) h k e = absurd cc
-same_turn stage l.PoolsGiven (l.Size n) h k e = absurd cc
-same_turn stage l.PoolsGiven (l.Width n) h k e = absurd cc
-same_turn stage l.PoolsGiven (l.Budget n) h k e = absurd cc
-same_turn stage l.PoolsGiven (l.Pairs n) h k e = absurd cc
-same_turn stage l.PoolsGiven (l.SortLine n) h k e = absurd cc
-same_turn stage l.PoolsGiven (l.SortLine2 n a2 b2) h k e = absurd cc
-same_turn stage l.PoolsGiven (l.ConLine n a2) h k e = absurd cc
-same_turn stage l.PoolsGiven (l.ConLine3 w n a2) h k e = absurd cc
-same_turn stage l.PoolsGiven (l.FunLine n a2 r) h k e = absurd cc
-same_turn stage l.PoolsGiven (l.FunLine3 w n a2 r) h k e = absurd cc
-same_turn stage l.PoolsGiven (l.MatchLine n) h k e = absurd cc
-same_turn stage l.PoolsGiven (l.BodyLine t) h k e = absurd cc
-same_turn stage l.PoolsGiven (l.CaseLine c2 t) h k e = absurd cc
-same_turn stage l.PoolsGiven (l.Explore n) h k e = absurd cc
-same_turn stage l.PoolsGiven (l.Background a2 b2) h k e = absurd cc
-same_turn stage l.PoolsGiven l.Pool h k e = absurd cc
-same_turn stage l.PoolsGiven (l.Values s v) h k e = absurd cc
-same_turn stage l.PoolsGiven l.End h k e = absurd cc
-same_turn stage (l.PoolsSeed a b c) l.Head h k e = absurd cc
-same_turn stage (l.PoolsSeed a b c) l.Head2 h k e = absurd cc
-same_turn stage (l.PoolsSeed a b c) l.Head3 h k e = absurd cc
-same_turn stage (l.PoolsSeed a b c) l.PoolsGiven h k e = absurd (differ _ _ refl (ap (λ z. get_or z 6 0) e))
-same_turn stage (l.PoolsSeed a b c) (l.PoolsSeed a2 b2 c2) h k e = refl
-same_turn stage (l.PoolsSeed a b c) (l.Vars n) h k e = absurd cc
-same_turn stage (l.PoolsSeed a b c) (l.Size n) h k e = absurd cc
-same_turn stage (l.PoolsSeed a b c) (l.Width n) h k e = absurd cc
-same_turn stage (l.PoolsSeed a b c) (l.Budget n) h k e = absurd cc
-same_turn stage (l.PoolsSeed a b c) (l.Pairs n) h k e = absurd cc
-same_turn stage (l.PoolsSeed a b c) (l.SortLine n) h k e = absurd cc
-same_turn stage (l.PoolsSeed a b c) (l.SortLine2 n a2 b2) h k e = absurd cc
-same_turn stage (l.PoolsSeed a b c) (l.ConLine n a2) h k e = absurd cc
-same_turn stage (l.PoolsSeed a b c) (l.ConLine3 w n a2) h k e = absurd cc
-same_turn stage (l.PoolsSeed a b c) (l.FunLine n a2 r) h k e = absurd cc
-same_turn stage (l.PoolsSeed a b c) (l.FunLine3 w n a2 r) h k e = absurd cc
-same_turn stage (l.PoolsSeed a b c) (l.MatchLine n) h k e = absurd cc
-same_turn stage (l.PoolsSeed a b c) (l.BodyLine t) h k e = absurd cc
-same_turn stage (l.PoolsSeed a b c) (l.CaseLine c2 t) h k e = absurd cc
-same_turn stage (l.PoolsSeed a b c) (l.Explore n) h k e = absurd cc
-same_turn stage (l.PoolsSeed a b c) (l.Background a2 b2) h k e = absurd cc
-same_turn stage (l.PoolsSeed a b c) l.Pool h k e = absurd cc
-same_turn stage (l.PoolsSeed a b c) (l.Values s v) h k e = absurd cc
-same_turn stage (l.PoolsSeed a b c) l.End h k e = absurd cc
-same_turn stage (l.Vars n) y h k e = absurd cc
-same_turn stage (l.Size n) y h k e = absurd cc
-same_turn stage (l.Width n) y h k e = absurd cc
-same_turn stage (l.Budget n) y h k e = absurd cc
-same_turn stage (l.Pairs n) y h k e = absurd cc
-same_turn stage (l.SortLine n) y h k e = absurd cc
-same_turn stage (l.SortLine2 n a2 b2) y h k e = absurd cc
-same_turn stage (l.ConLine n a2) y h k e = absurd cc
-same_turn stage (l.ConLine3 w n a2) y h k e = absurd cc
-same_turn stage (l.FunLine n a2 r) y h k e = absurd cc
-same_turn stage (l.FunLine3 w n a2 r) y h k e = absurd cc
-same_turn stage (l.MatchLine n) y h k e = absurd cc
-same_turn stage (l.BodyLine t) y h k e = absurd cc
-same_turn stage (l.CaseLine c2 t) y h k e = absurd cc
-same_turn stage (l.Explore n) y h k e = absurd cc
-same_turn stage (l.Background a2 b2) y h k e = absurd cc
-same_turn stage l.Pool y h k e = absurd cc
-same_turn stage (l.Values s v) y h k e = absurd cc
-same_turn stage l.End y h k e = absurd cc
-
-same_stage_by : (t : Bool) (stage : Stage) (x y : RawLine) → is_turn (line_key x) ≡ t → line_key x ≡ line_key y → line_spelling x ≡ line_spelling y → stage_after stage x ≡ stage_after stage y
-same_stage_by true stage x y h k e = same_turn stage x y h k e
-same_stage_by false stage x y h k e = leads_to stage x h ∙ ap (leads stage) k ∙ sym (leads_to stage y (ap is_turn (sym k) ∙ h))
-
-same_stage : (stage : Stage) (x y : RawLine) → line_spelling x ≡ line_spelling y → stage_after stage x ≡ stage_after stage y
-same_stage stage x y e = same_stage_by (is_turn (line_key x)) stage x y refl (same_key_of x y e) e
 
 -- a whole text
 abbrev IsWholeFrom : Stage → List RawLine → Type 0
@@ -327,13 +93,16 @@ no_text (y ∷ before) stage left stop order each [] whole e = nothing_else (lin
 no_text (y ∷ before) stage left stop order each (x ∷ lines) whole e =
     let q = same_line (line_spelling x) (line_spelling y) (sig_spelling lines) (sig_spelling before ++ left) (line_no_feed x whole.2.0) (line_no_feed y each.0)
     (sym (line_of_text x lines) ∙ e ∙ ap (λ l. l ++ left) (line_of_text y before) ∙ append_assoc (line_spelling y) (10 ∷ sig_spelling before) left) in
-    let s = same_stage stage x y q.0 in
+    let s = ap (stage_after stage) (one_line stage.version x y whole.0.1 order.1 whole.2.0 each.0 q.0) in
     no_text before (stage_after stage y) left stop order.2 each.1 lines
     (subst (λ t. InOrder t lines) s whole.0.2, subst (λ t. (stage_behind t lines).last ≡ Some key.End) s whole.1, whole.2.1) q.1
 
+whole_of : (lines : List RawLine) → IsRawSig lines → IsWholeFrom start lines
+whole_of lines sig = let w = spelled_in_order lines sig.order in (w.0, w.1, sig.each)
+
 pub refused_law : RefusedIsNoText
 refused_law text number kind fault lines sig e =
-    no_text fault.lines start fault.left (stops (stage_behind start fault.lines) fault.left fault.lines kind refl fault.why) fault.order fault.each lines (let w = spelled_in_order lines sig.order in (w.0, w.1, sig.each)) (e ∙ fault.parts)
+    no_text fault.lines start fault.left (stops (stage_behind start fault.lines) fault.left fault.lines kind refl fault.why) fault.order fault.each lines (whole_of lines sig) (e ∙ fault.parts)
   where
     stops : (stage : Stage) (left : List ℕ) (before : List RawLine) (kind : ReadKind) → stage_behind start before ≡ stage → LineFault before left kind ⊎ Unfinished before left kind
         → (lines : List RawLine) → IsWholeFrom stage lines → sig_spelling lines ≡ left → ⊥
@@ -341,3 +110,19 @@ refused_law text number kind fault lines sig e =
         fault_not stage left f.line f.behind kind lines f.first (subst (λ t. line_fault t f.line ≡ Some kind) s f.fault) whole e
     stops stage left before kind s (inr u) lines whole e =
         open_not stage left lines u.open_line (λ n c. u.absent n (subst (λ t. t.last ≡ Some key.End) (sym s) c)) whole e
+
+-- lines by lines
+one_lines : (stage : Stage) (lines others : List RawLine) → IsWholeFrom stage lines → IsWholeFrom stage others → sig_spelling lines ≡ sig_spelling others → lines ≡ others
+one_lines stage [] [] h g e = refl
+one_lines stage [] (y ∷ others) h g e = absurd (nothing_else (line_spelling y) (sig_spelling others) (e ∙ line_of_text y others))
+one_lines stage (x ∷ lines) [] h g e = absurd (nothing_else (line_spelling x) (sig_spelling lines) (sym e ∙ line_of_text x lines))
+one_lines stage (x ∷ lines) (y ∷ others) h g e =
+    let q = same_line (line_spelling x) (line_spelling y) (sig_spelling lines) (sig_spelling others) (line_no_feed x h.2.0) (line_no_feed y g.2.0) (sym (line_of_text x lines) ∙ e ∙ line_of_text y others) in
+    let f = one_line stage.version x y h.0.1 g.0.1 h.2.0 g.2.0 q.0 in
+    let s = ap (stage_after stage) (sym f) in
+    ap (λ t. t ∷ lines) f ∙ ap (λ ts. y ∷ ts)
+    (one_lines (stage_after stage y) lines others
+    (subst (λ t. InOrder t lines) (sym s) h.0.2, subst (λ t. (stage_behind t lines).last ≡ Some key.End) (sym s) h.1, h.2.1) (g.0.2, g.1, g.2.1) q.1)
+
+pub one_text_law : OneText
+one_text_law lines others h g e = one_lines start lines others (whole_of lines h) (whole_of others g) e

@@ -2,10 +2,13 @@
 use Rattle.std.specs.Prelude.{◌≡◌, ℕ, true, List, [], ◌∷◌, None}
 use Rattle.law_text.specs.Pieces.{pieces}
 use Rattle.law_read.specs.declared.raw.RawLine.{RawLine}
+use Rattle.law_read.specs.declared.raw.RawTerm.{RawTerm}
+use Rattle.law_read.specs.declared.want.Place.{Place}
 use Rattle.law_read.specs.declared.want.Want.TheVariants as w
 use Rattle.law_read.specs.declared.want.Bounds.TheVariants.{Kept}
 use Rattle.law_read.specs.declared.stage.Stage.{Stage}
-use Rattle.law_read.specs.Spelling.{line_spelling, sig_spelling}
+use Rattle.law_read.specs.Spelling.{line_spelling, sig_spelling, term_spelling}
+use Rattle.law_read.specs.Terms.{IsTerm}
 use Rattle.law_read.specs.Signature.{IsRawSig}
 use Rattle.law_read.specs.Texts.{FirstFault}
 use Rattle.law_read.specs.declared.error.ReadKind.{ReadKind}
@@ -27,3 +30,11 @@ SpelledIsRead = (stage : Stage) (line : RawLine) → allows stage (line_key line
 -- A text with a first fault is the spelling of no signature.
 abbrev pub RefusedIsNoText : Type 0
 RefusedIsNoText = (text : List ℕ) (number : ℕ) (kind : ReadKind) → FirstFault text number kind → (lines : List RawLine) → IsRawSig lines → sig_spelling lines ≡ text → ⊥
+
+-- A text is the spelling of one signature at most.
+abbrev pub OneText : Type 0
+OneText = (lines others : List RawLine) → IsRawSig lines → IsRawSig others → sig_spelling lines ≡ sig_spelling others → lines ≡ others
+
+-- Bytes are the spelling of one term at most.
+abbrev pub OneTerm : Type 0
+OneTerm = (place : Place) (term other : RawTerm) → IsTerm Kept place term → IsTerm Kept place other → term_spelling term ≡ term_spelling other → term ≡ other
