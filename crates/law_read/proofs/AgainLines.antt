@@ -75,7 +75,7 @@ result_on args result h named =
     ap (λ l. walk 0 (w.Row r.Sorts 0 0 (e.Mark Arrow) ∷ rest) (pieces l)) (spaced_append args (codes "->" ∷ tail)) ∙ q.1
     ∙ mark_on q.0 r.Sorts 0 (0 + length args) Arrow rest (spaced tail) tt (apart_words tail) ∙ name_on [] result [] named ∙ nothing
 
-root_end : (place : Place) (term : RawTerm) → IsTerm Kept place term → walk 0 (w.Gap ∷ w.Root place e.Line ∷ []) (pieces (spaced (term_words term))) ≡ None
+pub root_end : (place : Place) (term : RawTerm) → IsTerm Kept place term → walk 0 (w.Gap ∷ w.Root place e.Line ∷ []) (pieces (spaced (term_words term))) ≡ None
 root_end place term h =
     ap (λ l. walk 0 (w.Gap ∷ w.Root place e.Line ∷ []) (pieces l)) (sym (append-nil (spaced (term_words term)))) ∙ root_on place term e.Line [] [] [] (refl, refl, refl) h ∙ nothing
 

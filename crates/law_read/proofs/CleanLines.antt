@@ -73,7 +73,7 @@ not_closed version given (Some key.Background) k h = refl
 not_closed version given (Some key.Pool) k h = refl
 not_closed version given (Some key.Values) k h = refl
 
-in_order : (a b c : Bool) (fault : Option ReadKind) → a ≡ true → b ≡ true → c ≡ false → fault ≡ None → kind_in_order a b c fault ≡ None
+pub in_order : (a b c : Bool) (fault : Option ReadKind) → a ≡ true → b ≡ true → c ≡ false → fault ≡ None → kind_in_order a b c fault ≡ None
 in_order a b c fault x y z h = ap (λ t. kind_in_order t b c fault) x ∙ ap (λ t. kind_in_order true t c fault) y ∙ ap (λ t. kind_in_order true true t fault) z ∙ h
 
 pub line_read_law : SpelledIsRead

@@ -1,5 +1,5 @@
 -- One more line behind lines that stand in order.
-use Rattle.std.proofs.Common.{◌≡◌, ℕ, Bool, true, List, [], ◌∷◌, ◌++◌, Option, None, refl, ap, sym, subst, ◌∙◌}
+use Rattle.std.proofs.Common.{◌≡◌, ℕ, Bool, true, List, [], ◌∷◌, ◌++◌, Option, None, Some, inl, inr, ◌⊎◌, refl, ap, sym, subst, ◌∙◌}
 use Rattle.std.specs.List.{AllByRecursion}
 use Rattle.law_read.specs.declared.raw.RawLine.{RawLine}
 use Rattle.law_read.specs.declared.error.ReadKind.{ReadKind}
@@ -9,6 +9,13 @@ use Rattle.law_read.specs.Lines.{IsLine}
 use Rattle.law_read.specs.Stages.{allows, line_key, stage_after, IsOfVersion}
 use Rattle.law_read.specs.Stages.{InOrder, start, stage_behind}
 use Rattle.law_read.specs.Faults.{is_closed_by, line_fault}
+use Rattle.law_read.proofs.Completes.{reads}
+use Rattle.law_read.proofs.FirstFaults.{stuck}
+use Rattle.law_read.specs.Progress.{Finished, NoReading, Progress, Refused, RefusedAt, StoppedBy, StopsAt}
+use Rattle.law_read.specs.Texts.{FirstLine, next_number}
+use Rattle.law_read.specs.Spelling.{sig_spelling}
+use Rattle.law_read.specs.declared.error.ReadErr.{ReadErr}
+use Rattle.law_read.specs.declared.error.ReadErr.TheVariants as error
 use Rattle.law_read.specs.Progress.{IsProgress, LineTaken, Added}
 use Rattle.law_read.specs.Signature.{IsRawSig}
 use Rattle.law_read.proofs.Orders.{in_order_spelled, is_end}
@@ -46,7 +53,7 @@ added stage next lines pushed refused line bytes done so taken e is none closed 
   order = (grown stage next lines pushed line bytes so taken e is).order;
   each = (grown stage next lines pushed line bytes so taken e is).each;
   closed = closed ∙ ap (λ s. is_closed_by s.last) (grown stage next lines pushed line bytes so taken e is).here;
-  faultless = subst (λ s. line_fault s bytes ≡ None) so.here taken.faultless;
+  reads = let g = grown stage next lines pushed line bytes so taken e is in reads pushed g.order g.each;
 }
 
 -- lines that are over are a signature
@@ -55,3 +62,34 @@ whole stage lines so closed = record {
   order = in_order_spelled lines so.order (ap (λ s. s.last) (sym so.here) ∙ is_end stage.last closed);
   each = so.each;
 }
+
+-- a line with a fault has no reading behind the lines so far
+pub no_reading : (stage : Stage) (lines : List RawLine) (bytes : List ℕ) (kind : ReadKind) → IsProgress stage lines → line_fault stage bytes ≡ Some kind → NoReading lines bytes kind
+no_reading stage lines bytes kind so e =
+    let f = subst (λ s. line_fault s bytes ≡ Some kind) so.here e in record { stuck = stuck lines bytes kind so.order so.each f; fault = f }
+
+pub refused_now : (lines : List RawLine) (refused : Option (ℕ × ReadKind)) (bytes : List ℕ) (number : ℕ) (kind : ReadKind) → NoReading lines bytes kind → refused ≡ None → number ≡ next_number lines
+    → RefusedAt (record { lines = lines; refused = refused }) (record { lines = lines; refused = Some (number, kind) }) bytes number kind
+refused_now lines refused bytes number kind h none next = record { lines = refl; kept = refl; why = inr (none, next, h) }
+
+-- The reader of a text stops where a line is refused.
+pub stops_at : (text rest line behind : List ℕ) (old new : Progress) (why : ReadErr) → text ≡ sig_spelling old.lines ++ rest → old.refused ≡ None → InOrder start old.lines
+    → AllByRecursion (IsLine Kept) old.lines → FirstLine rest line behind → Refused old new line why → StoppedBy text why
+stops_at text rest line behind old new error.NoMemory parts going order each first refused = tt
+stops_at text rest line behind old new (error.Form number kind) parts going order each first refused = by refused.why
+  where
+    by : (old.refused ≡ Some (number, kind)) ⊎ ((old.refused ≡ None) × (number ≡ next_number old.lines) × NoReading old.lines line kind) → StopsAt text number kind
+    by (inl e) = absurd (cc)
+    by (inr r) = record {
+      lines = old.lines;
+      left = rest;
+      parts = parts;
+      order = order;
+      each = each;
+      next = r.1;
+      why = inl (record { line = line; behind = behind; first = first; fault = r.2.fault });
+    }
+
+pub finished : (stage : Stage) (lines result : List RawLine) (refused : Option (ℕ × ReadKind)) → IsProgress stage lines → is_closed_by stage.last ≡ true → refused ≡ None → result ≡ lines
+    → Finished (record { lines = lines; refused = refused }) result
+finished stage lines result refused so closed none e = record { refused = none; same = e; signature = subst IsRawSig (sym e) (whole stage lines so closed) }

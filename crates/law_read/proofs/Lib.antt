@@ -5,7 +5,9 @@ pub mod AgainRoots
 pub mod AgainLines
 pub mod Clean
 pub mod CleanLines
+pub mod Completes
 pub mod Cuts
+pub mod FirstFaults
 pub mod OneLine
 pub mod OneTerm
 pub mod OrderRows
@@ -18,5 +20,6 @@ pub mod LineSteps
 pub mod LineWords
 pub mod Grown
 pub mod Spaced
+pub mod TextReads
 pub mod Walks
 pub mod Whole

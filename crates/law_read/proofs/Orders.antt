@@ -370,21 +370,19 @@ fits version given last shape = not (allows_last_key version given last (shape_k
 abbrev all_fit : Version → Bool → Option Key → Bool
 all_fit version given last = list_all (fits version given last) all_shapes
 
-abbrev keys_fit : Version → Bool → Bool
-keys_fit version given = all_fit version given None && list_all (λ k. all_fit version given (Some k)) all_keys
+-- what is true of all keys of a table is true of each
+pub last_holds : (test : Version → Bool → Option Key → Bool) → ((version : Version) (given : Bool) → (test version given None && list_all (λ k. test version given (Some k)) all_keys) ≡ true)
+    → (version : Version) (given : Bool) (last : Option Key) → test version given last ≡ true
+last_holds test h version given None = (both (test version given None) _ (h version given)).0
+last_holds test h version given (Some k) = at (λ k. test version given (Some k)) all_keys (key_number k) k (both (test version given None) _ (h version given)).1 (key_at k)
 
-table : (version : Version) (given : Bool) → keys_fit version given ≡ true
+table : (version : Version) (given : Bool) → (all_fit version given None && list_all (λ k. all_fit version given (Some k)) all_keys) ≡ true
 table First true = refl
 table First false = refl
 table Second true = refl
 table Second false = refl
 table Third true = refl
 table Third false = refl
-
-last_fits : (version : Version) (given : Bool) (last : Option Key) → all_fit version given last ≡ true
-last_fits version given None = (both (all_fit version given None) _ (table version given)).0
-last_fits version given (Some k) =
-    at (λ k. all_fit version given (Some k)) all_keys (key_number k) k (both (all_fit version given None) _ (table version given)).1 (key_at k)
 
 implied : (a b c : Bool) → (not (a && b) || c) ≡ true → a ≡ true → b ≡ true → c ≡ true
 implied true true c h a b = h
@@ -395,7 +393,7 @@ is_among : (stage : Stage) (shape : Shape) → allows stage (shape_key shape) �
     → has (next stage.version stage.given stage.last) shape ≡ true
 is_among stage shape a f =
     implied (allows stage (shape_key shape)) (of_version stage.version shape) (has (next stage.version stage.given stage.last) shape)
-    (at (fits stage.version stage.given stage.last) all_shapes (shape_number shape) shape (last_fits stage.version stage.given stage.last) (shape_at shape)) a f
+    (at (fits stage.version stage.given stage.last) all_shapes (shape_number shape) shape (last_holds all_fit table stage.version stage.given stage.last) (shape_at shape)) a f
 
 is_shape : (a b : Shape) → same_shape a b ≡ true → a ≡ b
 is_shape a b h = let e = sym (shape_at a) ∙ ap (nth all_shapes) (eqb-true (shape_number a) (shape_number b) h) ∙ shape_at b in cc

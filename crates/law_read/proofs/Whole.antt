@@ -1,4 +1,4 @@
--- A text whose first fault is found is the spelling of no signature.
+-- A text is the spelling of one signature at most.
 use Rattle.std.proofs.Common.{◌≡◌, ℕ, suc, ◌+◌, ◌<◌, Bool, true, false, ◌&&◌, ◌||◌, ◌==◌, List, [], ◌∷◌, ◌++◌, Option, Some, None, refl, ap, sym, subst, ◌∙◌, arith, map, length, get_or, nat_lt, codes, inl, inr, ◌⊎◌}
 use Rattle.std.proofs.lemmas.Bool.Decides.{nat_tests}
 use Rattle.std.proofs.lemmas.List.{append_assoc, append-nil}
@@ -18,9 +18,9 @@ use Rattle.law_read.specs.Stages.{IsOfVersion, allows, key_text, line_key, stage
 use Rattle.law_read.specs.Signature.{IsRawSig}
 use Rattle.law_read.specs.Stages.{InOrder, start, stage_behind}
 use Rattle.law_read.specs.Walk.{key_of}
-use Rattle.law_read.specs.Laws.{OneText, RefusedIsNoText}
+use Rattle.law_read.specs.Laws.{OneText}
 use Rattle.law_read.specs.Faults.{is_printed, line_fault}
-use Rattle.law_read.specs.Texts.{FirstLine, LineFault, Unfinished, has_feed}
+use Rattle.law_read.specs.Texts.{has_feed}
 use Rattle.law_read.proofs.Orders.{spelled_in_order}
 use Rattle.law_read.proofs.RowSteps.{both}
 use Rattle.law_read.proofs.OneLine.{one_line}
@@ -34,7 +34,7 @@ no_feed : (bytes : List ℕ) → list_all is_printed bytes ≡ true → has_feed
 no_feed [] h = refl
 no_feed (b ∷ bytes) h = let q = both (is_printed b) (list_all is_printed bytes) h in ap (λ t. t || has_feed bytes) (no_feed_byte b q.0) ∙ no_feed bytes q.1
 
-line_no_feed : (line : RawLine) → IsLine Kept line → has_feed (line_spelling line) ≡ false
+pub line_no_feed : (line : RawLine) → IsLine Kept line → has_feed (line_spelling line) ≡ false
 line_no_feed line h = no_feed (line_spelling line) (clean_joined (line_words line) (clean_words line h)).0
 
 -- the first line of a text is one
@@ -45,7 +45,7 @@ or_none : (a b : Bool) → (a || b) ≡ false → (a ≡ false) × (b ≡ false)
 or_none true b h = absurd cc
 or_none false b h = (refl, h)
 
-same_line : (xs ys us vs : List ℕ) → has_feed xs ≡ false → has_feed ys ≡ false → xs ++ 10 ∷ us ≡ ys ++ 10 ∷ vs → (xs ≡ ys) × (us ≡ vs)
+pub same_line : (xs ys us vs : List ℕ) → has_feed xs ≡ false → has_feed ys ≡ false → xs ++ 10 ∷ us ≡ ys ++ 10 ∷ vs → (xs ≡ ys) × (us ≡ vs)
 same_line [] [] us vs h g e = (refl, cc)
 same_line [] (y ∷ ys) us vs h g e = let q = or_none (y == 10) (has_feed ys) g in let f : y ≡ 10 = cc in absurd (let t = feed_is y (y == 10) refl f in cc)
 same_line (x ∷ xs) [] us vs h g e = let q = or_none (x == 10) (has_feed xs) h in let f : x ≡ 10 = cc in absurd (let t = feed_is x (x == 10) refl f in cc)
@@ -54,17 +54,17 @@ same_line (x ∷ xs) (y ∷ ys) us vs h g e =
     let r = same_line xs ys us vs (or_none (x == 10) (has_feed xs) h).1 (or_none (y == 10) (has_feed ys) g).1 k in (cc, r.1)
 
 -- a whole text
-abbrev IsWholeFrom : Stage → List RawLine → Type 0
+abbrev pub IsWholeFrom : Stage → List RawLine → Type 0
 IsWholeFrom stage lines = InOrder stage lines × ((stage_behind stage lines).last ≡ Some key.End) × AllByRecursion (IsLine Kept) lines
 
-nothing_else : (bytes rest : List ℕ) → [] ≡ bytes ++ 10 ∷ rest → ⊥
+pub nothing_else : (bytes rest : List ℕ) → [] ≡ bytes ++ 10 ∷ rest → ⊥
 nothing_else [] rest e = cc
 nothing_else (b ∷ bytes) rest e = cc
 
 line_of_text : (line : RawLine) (lines : List RawLine) → sig_spelling (line ∷ lines) ≡ line_spelling line ++ 10 ∷ sig_spelling lines
 line_of_text line lines = append_assoc (line_spelling line) (10 ∷ []) (sig_spelling lines)
 
-feed_in : (bytes rest : List ℕ) → has_feed (bytes ++ 10 ∷ rest) ≡ true
+pub feed_in : (bytes rest : List ℕ) → has_feed (bytes ++ 10 ∷ rest) ≡ true
 feed_in [] rest = refl
 feed_in (b ∷ bytes) rest = or_second (b == 10) (has_feed (bytes ++ 10 ∷ rest)) (feed_in bytes rest)
   where
@@ -72,47 +72,11 @@ feed_in (b ∷ bytes) rest = or_second (b == 10) (has_feed (bytes ++ 10 ∷ rest
     or_second true b h = refl
     or_second false b h = h
 
-fault_not : (stage : Stage) (left bytes behind : List ℕ) (kind : ReadKind) (lines : List RawLine) → FirstLine left bytes behind → line_fault stage bytes ≡ Some kind → IsWholeFrom stage lines
-    → sig_spelling lines ≡ left → ⊥
-fault_not stage left bytes behind kind [] f h whole e = nothing_else bytes behind (e ∙ f.parts)
-fault_not stage left bytes behind kind (x ∷ lines) f h whole e =
-    let q = same_line (line_spelling x) bytes (sig_spelling lines) behind (line_no_feed x whole.2.0) f.whole (sym (line_of_text x lines) ∙ e ∙ f.parts) in
-    let n = line_read_law stage x whole.0.0 whole.0.1 whole.2.0 in
-    let m = ap (line_fault stage) q.0 in cc
-
-open_not : (stage : Stage) (left : List ℕ) (lines : List RawLine) → has_feed left ≡ false → (left ≡ [] → stage.last ≡ Some key.End → ⊥) → IsWholeFrom stage lines → sig_spelling lines ≡ left → ⊥
-open_not stage left [] f absent whole e = absent (sym e) whole.1
-open_not stage left (x ∷ lines) f absent whole e =
-    let t = feed_in (line_spelling x) (sig_spelling lines) in let u = ap has_feed (sym (line_of_text x lines) ∙ e) in cc
-
--- the lines before the fault are those of the signature, so the fault stands in its text too
-pub no_text : (before : List RawLine) (stage : Stage) (left : List ℕ) → ((lines : List RawLine) → IsWholeFrom (stage_behind stage before) lines → sig_spelling lines ≡ left → ⊥)
-    → InOrder stage before → AllByRecursion (IsLine Kept) before → (lines : List RawLine) → IsWholeFrom stage lines → sig_spelling lines ≡ sig_spelling before ++ left → ⊥
-no_text [] stage left stop order each lines whole e = stop lines whole e
-no_text (y ∷ before) stage left stop order each [] whole e = nothing_else (line_spelling y) (sig_spelling before ++ left) (e ∙ ap (λ l. l ++ left) (line_of_text y before) ∙ append_assoc (line_spelling y) (10 ∷ sig_spelling before) left)
-no_text (y ∷ before) stage left stop order each (x ∷ lines) whole e =
-    let q = same_line (line_spelling x) (line_spelling y) (sig_spelling lines) (sig_spelling before ++ left) (line_no_feed x whole.2.0) (line_no_feed y each.0)
-    (sym (line_of_text x lines) ∙ e ∙ ap (λ l. l ++ left) (line_of_text y before) ∙ append_assoc (line_spelling y) (10 ∷ sig_spelling before) left) in
-    let s = ap (stage_after stage) (one_line stage.version x y whole.0.1 order.1 whole.2.0 each.0 q.0) in
-    no_text before (stage_after stage y) left stop order.2 each.1 lines
-    (subst (λ t. InOrder t lines) s whole.0.2, subst (λ t. (stage_behind t lines).last ≡ Some key.End) s whole.1, whole.2.1) q.1
-
-whole_of : (lines : List RawLine) → IsRawSig lines → IsWholeFrom start lines
+pub whole_of : (lines : List RawLine) → IsRawSig lines → IsWholeFrom start lines
 whole_of lines sig = let w = spelled_in_order lines sig.order in (w.0, w.1, sig.each)
 
-pub refused_law : RefusedIsNoText
-refused_law text number kind fault lines sig e =
-    no_text fault.lines start fault.left (stops (stage_behind start fault.lines) fault.left fault.lines kind refl fault.why) fault.order fault.each lines (whole_of lines sig) (e ∙ fault.parts)
-  where
-    stops : (stage : Stage) (left : List ℕ) (before : List RawLine) (kind : ReadKind) → stage_behind start before ≡ stage → LineFault before left kind ⊎ Unfinished before left kind
-        → (lines : List RawLine) → IsWholeFrom stage lines → sig_spelling lines ≡ left → ⊥
-    stops stage left before kind s (inl f) lines whole e =
-        fault_not stage left f.line f.behind kind lines f.first (subst (λ t. line_fault t f.line ≡ Some kind) s f.fault) whole e
-    stops stage left before kind s (inr u) lines whole e =
-        open_not stage left lines u.open_line (λ n c. u.absent n (subst (λ t. t.last ≡ Some key.End) (sym s) c)) whole e
-
 -- lines by lines
-one_lines : (stage : Stage) (lines others : List RawLine) → IsWholeFrom stage lines → IsWholeFrom stage others → sig_spelling lines ≡ sig_spelling others → lines ≡ others
+pub one_lines : (stage : Stage) (lines others : List RawLine) → IsWholeFrom stage lines → IsWholeFrom stage others → sig_spelling lines ≡ sig_spelling others → lines ≡ others
 one_lines stage [] [] h g e = refl
 one_lines stage [] (y ∷ others) h g e = absurd (nothing_else (line_spelling y) (sig_spelling others) (e ∙ line_of_text y others))
 one_lines stage (x ∷ lines) [] h g e = absurd (nothing_else (line_spelling x) (sig_spelling lines) (sym e ∙ line_of_text x lines))

@@ -27,9 +27,12 @@ abbrev pub SpelledIsRead : Type 0
 SpelledIsRead = (stage : Stage) (line : RawLine) → allows stage (line_key line) ≡ true → IsOfVersion stage.version line → IsLine Kept line
     → line_fault stage (line_spelling line) ≡ None
 
--- A text with a first fault is the spelling of no signature.
+-- A text with a first fault is the spelling of no signature, and it has one first fault: number and kind.
 abbrev pub RefusedIsNoText : Type 0
 RefusedIsNoText = (text : List ℕ) (number : ℕ) (kind : ReadKind) → FirstFault text number kind → (lines : List RawLine) → IsRawSig lines → sig_spelling lines ≡ text → ⊥
+
+abbrev pub OneFault : Type 0
+OneFault = (text : List ℕ) (number other : ℕ) (kind why : ReadKind) → FirstFault text number kind → FirstFault text other why → (number ≡ other) × (kind ≡ why)
 
 -- A text is the spelling of one signature at most.
 abbrev pub OneText : Type 0

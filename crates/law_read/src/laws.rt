@@ -1,4 +1,4 @@
-ghost use Rattle.law_read.specs.Laws.{OneTerm, OneText, RefusedIsNoText, SpelledIsRead, SpelledIsWalked};
+ghost use Rattle.law_read.specs.Laws.{OneFault, OneTerm, OneText, RefusedIsNoText, SpelledIsRead, SpelledIsWalked};
 
 /// Each line that may come at a stage and that the grammar spells is read to its end, and has no fault.
 pub fn spelled_lines_are_read()
@@ -6,9 +6,10 @@ pub fn spelled_lines_are_read()
     ensures read { SpelledIsRead }
 {}
 
-/// A text that is refused is the spelling of no signature.
+/// A text with a first fault is the spelling of no signature, and it has no other first fault.
 pub fn refused_texts_are_none()
-    ensures { RefusedIsNoText }
+    ensures none { RefusedIsNoText }
+    ensures one { OneFault }
 {}
 
 /// A text is the spelling of one signature at most, and of one term at most.

@@ -9,7 +9,9 @@ ghost use Rattle.law_read.specs.Spelling.{sig_spelling, term_spelling};
 ghost use Rattle.law_read.specs.Terms.{IsTerm};
 ghost use Rattle.law_read.specs.Faults.{term_fault};
 ghost use Rattle.law_read.specs.Reads.{Stops};
-ghost use Rattle.law_read.specs.Texts.{FaultAt, FirstLine, TermFault, TermTaken, has_feed};
+ghost use Rattle.law_read.specs.Signature.{IsRawSig};
+ghost use Rattle.law_read.specs.Progress.{StoppedBy, TermFound};
+ghost use Rattle.law_read.specs.Texts.{FirstLine, IsReadAs, RefusedBy, TermFault, TermTaken, has_feed};
 
 use crate::error::{ReadErr, ReadKind, Stop};
 use crate::part::end;
@@ -21,10 +23,21 @@ use crate::want::{Ending, Place};
 use law_text::Line;
 use std::alloc::Global;
 
-/// The signature that a text spells. A refusal names the first line that has no reading, and why.
+/// The signature that a text spells, which is the only one. A refusal names the first line that has no reading, and why.
+#[tactic(auto, using(crate::proofs::TextReads::text_steps))]
 pub fn read_sig(alloc: Global, text: &[u8]) -> Result<RawSig, ReadErr>
-    ensures ok { IfOk result (λ sig. sig_spelling sig ≡ text.now) }
-    ensures form { IfErr result (FaultAt text.now) }
+    ensures ok { IfOk result (IsReadAs text.now) }
+    ensures form { IfErr result (RefusedBy text.now) }
+{
+    match read_lines(alloc, text) {
+        Ok(sig) => Ok(sig),
+        Err(error) => Err(error),
+    }
+}
+
+fn read_lines(alloc: Global, text: &[u8]) -> Result<RawSig, ReadErr>
+    ensures ok { IfOk result (λ sig. IsRawSig sig × (sig_spelling sig ≡ text.now)) }
+    ensures form { IfErr result (StoppedBy text.now) }
 {
     let mut reader = SigLines::new(alloc);
     let mut rest = text;
@@ -57,8 +70,9 @@ fn first_line(text: &[u8]) -> Option<(&[u8], &[u8])>
 }
 
 /// The term that some bytes spell, with the atoms of equations; a refusal counts them as line 1.
+#[tactic(auto, using(crate::proofs::TextReads::term_steps))]
 pub fn read_term(alloc: Global, bytes: &[u8]) -> Result<RawTerm, ReadErr>
-    ensures ok { IfOk result (λ term. IsTerm Kept p.Equation term × (term_spelling term ≡ bytes.now)) }
+    ensures ok { IfOk result (TermTaken bytes.now) }
     ensures form { IfErr result (TermFault bytes.now) }
 {
     match take_term(alloc, bytes) {
@@ -69,7 +83,7 @@ pub fn read_term(alloc: Global, bytes: &[u8]) -> Result<RawTerm, ReadErr>
 }
 
 fn take_term(alloc: Global, bytes: &[u8]) -> Result<RawTerm, Stop>
-    ensures { MatchResult result (TermTaken bytes.now) (λ stop. Stops stop (term_fault bytes.now)) }
+    ensures { MatchResult result (TermFound bytes.now) (λ stop. Stops stop (term_fault bytes.now)) }
 {
     if !all_printed(bytes) {
         return Err(Stop::Form(ReadKind::Byte));

@@ -4,7 +4,7 @@ use Rattle.law_read.specs.Spelling.{sig_spelling}
 use Rattle.law_read.specs.Stages.{InOrder, start}
 use Rattle.law_read.specs.Lines.{IsLine}
 use Rattle.law_read.specs.declared.want.Bounds.TheVariants.{Kept}
-use Rattle.law_read.proofs.read.read_sig.Given as goal
+use Rattle.law_read.proofs.read.read_lines.Given as goal
 
 abbrev pub invariant-loop-line : goal.invariant-loop-line
 invariant-loop-line l = record {
