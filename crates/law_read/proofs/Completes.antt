@@ -1,5 +1,5 @@
 -- Lines in order have a reading: some lines behind them make them a signature.
-use Rattle.std.proofs.Common.{◌≡◌, ℕ, ◌<◌, ◌^◌, Bool, true, false, ◌&&◌, List, [], ◌∷◌, ◌++◌, Option, Some, None, refl, ap, sym, subst, ◌∙◌, arith, map, codes, nat_le, sum, ◌+◌}
+use Rattle.std.proofs.Common.{◌≡◌, ℕ, ◌<◌, ◌^◌, Bool, true, false, ◌&&◌, List, [], ◌∷◌, ◌++◌, Option, Some, None, refl, ap, ◌∙◌, arith, map, codes, nat_le, sum, ◌+◌}
 use Rattle.std.specs.List.{AllByRecursion, list_all}
 use Rattle.law_read.specs.declared.raw.RawHead.TheVariants.{Name}
 use Rattle.law_read.specs.declared.raw.RawTerm.{RawTerm}
@@ -26,7 +26,6 @@ use Rattle.law_read.specs.Faults.{is_closed_by}
 use Rattle.law_read.specs.Texts.{HasReading}
 use Rattle.law_read.proofs.RowSteps.{both}
 use Rattle.law_read.proofs.Orders.{in_order_spelled, is_end, last_holds}
-use Rattle.law_read.proofs.Whole.{IsWholeFrom}
 
 -- a term of one name, and lines that hold nothing else
 abbrev sample : RawTerm

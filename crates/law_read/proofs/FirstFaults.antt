@@ -1,5 +1,5 @@
 -- The first line that has no reading: there is one at most, and none in the text of a signature.
-use Rattle.std.proofs.Common.{◌≡◌, ℕ, ◌+◌, ◌-◌, ◌^◌, min, Bool, true, false, List, [], ◌∷◌, ◌++◌, Option, Some, None, refl, ap, sym, subst, ◌∙◌, map, inl, inr, ◌⊎◌}
+use Rattle.std.proofs.Common.{◌≡◌, ℕ, ◌+◌, ◌-◌, ◌^◌, min, List, [], ◌∷◌, ◌++◌, Some, refl, ap, sym, subst, ◌∙◌, map, inl, inr, ◌⊎◌}
 use Rattle.std.proofs.lemmas.List.{append_assoc, append-nil, length-map}
 use Rattle.std.specs.List.{AllByRecursion}
 use Rattle.law_read.specs.declared.raw.RawLine.{RawLine}
@@ -7,7 +7,7 @@ use Rattle.law_read.specs.declared.error.ReadKind.{ReadKind}
 use Rattle.law_read.specs.declared.stage.Key.TheVariants as key
 use Rattle.law_read.specs.declared.stage.Stage.{Stage}
 use Rattle.law_read.specs.declared.want.Bounds.TheVariants.{Kept}
-use Rattle.law_read.specs.Spelling.{line_spelling, sig_spelling, text_of}
+use Rattle.law_read.specs.Spelling.{line_spelling, text_of}
 use Rattle.law_read.specs.Lines.{IsLine}
 use Rattle.law_read.specs.Stages.{InOrder, stage_after, stage_behind, start}
 use Rattle.law_read.specs.Signature.{IsRawSig}

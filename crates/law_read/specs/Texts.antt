@@ -1,5 +1,5 @@
 -- Whole texts: what has a reading, and the first line that has none.
-use Rattle.std.specs.Prelude.{◌≡◌, ℕ, ◌+◌, ◌-◌, ◌^◌, Bool, false, ◌==◌, List, [], ◌∷◌, ◌++◌, length, map, min, Some, None, ◌⊎◌}
+use Rattle.std.specs.Prelude.{◌≡◌, ℕ, ◌+◌, ◌-◌, ◌^◌, Bool, false, ◌==◌, List, [], ◌∷◌, ◌++◌, length, map, min, Some, ◌⊎◌}
 use Rattle.std.specs.List.{AllByRecursion, list_any}
 use Rattle.law_read.specs.declared.raw.RawLine.{RawLine}
 use Rattle.law_read.specs.declared.raw.RawTerm.{RawTerm}
@@ -78,6 +78,7 @@ pub record FirstFault (text : List ℕ) (number : ℕ) (kind : ReadKind) : Type 
 
 -- The text is the spelling of this signature, and of no other.
 pub record IsReadAs (text : List ℕ) (lines : List RawLine) : Type 0 where
+  pub signature : IsRawSig lines
   pub spelled : sig_spelling lines ≡ text
   pub only : (others : List RawLine) → IsRawSig others → sig_spelling others ≡ text → others ≡ lines
 
