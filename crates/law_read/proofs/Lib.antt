@@ -8,6 +8,7 @@ pub mod CleanLines
 pub mod Completes
 pub mod Cuts
 pub mod FirstFaults
+pub mod Found
 pub mod OneLine
 pub mod OneTerm
 pub mod OrderRows
@@ -18,7 +19,9 @@ pub mod RowSteps
 pub mod RowWhole
 pub mod LineSteps
 pub mod LineWords
+pub mod LinesFound
 pub mod Grown
+pub mod SomeFirst
 pub mod Spaced
 pub mod TextReads
 pub mod Walks
