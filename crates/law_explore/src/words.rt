@@ -9,15 +9,15 @@ use law_sig::{NoMemory, Seq, Tree};
 use std::alloc::Global;
 
 /// Adds the word of a term.
-fn push_word(word: &mut Vec<u64>, term: &Tree) -> Result<(), NoMemory>
-    ensures { OnOk result (word.new.items ≡ word.old.items ++ word term.now) }
+fn push_word(made: &mut Vec<u64>, term: &Tree) -> Result<(), NoMemory>
+    ensures { OnOk result (made.new.items ≡ made.old.items ++ word term.now) }
 {
     match term {
-        Tree::Var(sort, index) => push_numbers(word, &[0, sort.0 as u64, *index as u64]),
+        Tree::Var(sort, index) => push_numbers(made, &[0, sort.0 as u64, *index as u64]),
         Tree::App(head, args) => {
-            push_numbers(word, &[1, head.0 as u64, args.len() as u64])?;
+            push_numbers(made, &[1, head.0 as u64, args.len() as u64])?;
             for arg in args.as_slice() {
-                push_word(word, arg)?;
+                push_word(made, arg)?;
             }
             Ok(())
         }
@@ -25,10 +25,10 @@ fn push_word(word: &mut Vec<u64>, term: &Tree) -> Result<(), NoMemory>
 }
 
 /// Adds these numbers.
-fn push_numbers(word: &mut Vec<u64>, numbers: &[u64]) -> Result<(), NoMemory>
-    ensures { OnOk result (word.new.items ≡ word.old.items ++ numbers.now) }
+fn push_numbers(made: &mut Vec<u64>, numbers: &[u64]) -> Result<(), NoMemory>
+    ensures { OnOk result (made.new.items ≡ made.old.items ++ numbers.now) }
 {
-    match word.extend_from_slice(numbers) {
+    match made.extend_from_slice(numbers) {
         Ok(()) => Ok(()),
         Err(_) => Err(NoMemory),
     }
@@ -38,9 +38,9 @@ fn push_numbers(word: &mut Vec<u64>, numbers: &[u64]) -> Result<(), NoMemory>
 pub fn word_of(alloc: Global, term: &Tree) -> Result<Vec<u64>, NoMemory>
     ensures { IfOk result (λ made. made.items ≡ word term.now) }
 {
-    let mut word = Vec::new(alloc);
-    push_word(&mut word, term)?;
-    Ok(word)
+    let mut made = Vec::new(alloc);
+    push_word(&mut made, term)?;
+    Ok(made)
 }
 
 /// The places of terms that are found.
