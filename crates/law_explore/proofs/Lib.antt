@@ -12,3 +12,5 @@ pub mod ProfileFacts
 pub mod ValueFacts
 pub mod PlainFacts
 pub mod InstanceFacts
+pub mod BothFacts
+pub mod Testing
