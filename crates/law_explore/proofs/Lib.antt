@@ -14,3 +14,4 @@ pub mod PlainFacts
 pub mod InstanceFacts
 pub mod BothFacts
 pub mod Testing
+pub mod Breaking
