@@ -1,5 +1,5 @@
 -- What an error tells, and background equations that hold or break.
-use Rattle.std.proofs.Common.{◌≡◌, ◌≢◌, ℕ, zero, suc, ◌+◌, ◌<◌, ◌≤◌, ◌⊎◌, inl, inr, Option, Some, None, IsSome, Result, Ok, Err, IfErr, List, [], ◌∷◌, length, take, slice_get, slice_index_or, sym, refl, ap, ◌∙◌, subst, arith}
+use Rattle.std.proofs.Common.{◌≡◌, ◌≢◌, ℕ, zero, suc, ◌+◌, ◌<◌, ◌≤◌, ◌⊎◌, inl, inr, Option, Some, None, IsSome, Result, Ok, Err, IfErr, IfOk, List, [], ◌∷◌, length, take, slice_get, slice_index_or, sym, refl, ap, ◌∙◌, subst, arith}
 use Rattle.std.specs.Result.{IsErrAnd}
 use Rattle.std.proofs.lemmas.Bool.{cases_lt}
 use Rattle.std.proofs.lemmas.Option.{slice_get-get_or, slice_get_within}
@@ -33,6 +33,11 @@ pub handed_on : (parts : SigParts) (P Q : Refusal → Type 0) {T : Type 0} (r : 
     → IsErrAnd r (λ y. y ≡ x) → IsTold parts P x → IfErr r (IsTold parts Q)
 handed_on parts P Q (Ok y) x f h told = absurd h
 handed_on parts P Q (Err y) x f h told = subst (IsTold parts Q) (sym h) (told_on parts P Q f x told)
+
+-- what follows from what holds of a result
+pub if_ok : {A E : Type 0} (r : Result A E) (P Q : A → Type 0) → ((x : A) → P x → Q x) → IfOk r P → IfOk r Q
+if_ok (Ok x) P Q f h = f x h
+if_ok (Err e) P Q f h = tt
 
 -- the number of tests
 pub count_is : (parts : SigParts) (bank : List Tree) (table : PoolTable) (n : ℕ) → ArePools parts bank table

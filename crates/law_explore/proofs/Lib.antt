@@ -15,3 +15,6 @@ pub mod InstanceFacts
 pub mod BothFacts
 pub mod Testing
 pub mod Breaking
+pub mod PoolFacts
+pub mod Places
+pub mod VectorFacts

@@ -111,31 +111,29 @@ word = fold-Tree (List ℕ) word_step
 abbrev pub Finds : Type 0
 Finds = Vec ℕ Global → Option ℕ
 
--- the term's word is found at this place
-abbrev pub IsPlaced : Finds → Tree → ℕ → Type 0
-IsPlaced found t place = (v : Vec ℕ Global) → v.items ≡ word t → found v ≡ Some place
-
 -- the term's word is found
 abbrev pub IsFound : Finds → Tree → Type 0
-IsFound found t = (place : ℕ) × IsPlaced found t place
+IsFound found t = (v : Vec ℕ Global) → v.items ≡ word t → (place : ℕ) × (found v ≡ Some place)
 
--- the term is found at a place where its vector stands
-pub record IsKnown (parts : SigParts) (bank : List Tree) (found : Finds) (vectors : List (Vec ℕ Global)) (t : Tree) : Type 0 where
-  pub place : ℕ
-  pub placed : IsPlaced found t place
-  pub vector : Vec ℕ Global
-  pub there : slice_get vectors place ≡ Some vector
-  pub is : IsVector parts bank t vector.items
-
--- the arguments of the term are known
-abbrev pub HasKnownArgs : SigParts → List Tree → Finds → List (Vec ℕ Global) → Tree → Type 0
-HasKnownArgs parts bank found vectors t = (f : SymId) (args : List Tree) → t ≡ App f args → Each (IsKnown parts bank found vectors) args
+-- it is found at this place
+pub record IsPlaced (found : Finds) (t : Tree) (place : ℕ) : Type 0 where
+  pub key : Vec ℕ Global
+  pub spelled : key.items ≡ word t
+  pub is : found key ≡ Some place
 
 -- the place has the term's vector
 pub record HasVector (parts : SigParts) (bank : List Tree) (vectors : List (Vec ℕ Global)) (t : Tree) (place : ℕ) : Type 0 where
   pub vector : Vec ℕ Global
   pub there : slice_get vectors place ≡ Some vector
   pub is : IsVector parts bank t vector.items
+
+-- the term is found at a place that has its vector
+abbrev pub IsKnown : SigParts → List Tree → Finds → List (Vec ℕ Global) → Tree → Type 0
+IsKnown parts bank found vectors t = (v : Vec ℕ Global) → v.items ≡ word t → (place : ℕ) × (found v ≡ Some place) × HasVector parts bank vectors t place
+
+-- the arguments of the term are known
+abbrev pub HasKnownArgs : SigParts → List Tree → Finds → List (Vec ℕ Global) → Tree → Type 0
+HasKnownArgs parts bank found vectors t = (f : SymId) (args : List Tree) → t ≡ App f args → Each (IsKnown parts bank found vectors) args
 
 abbrev pub HaveVectors : SigParts → List Tree → List (Vec ℕ Global) → List Tree → List ℕ → Type 0
 HaveVectors parts bank vectors args places = Both (HasVector parts bank vectors) args places

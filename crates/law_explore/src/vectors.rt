@@ -120,6 +120,7 @@ fn ids_of(
     match term {
         Tree::Var(sort, index) => Ok(of_variable(alloc, sig, bank, pools, *sort, *index)?),
         Tree::App(head, args) => {
+            let _well_formed = sig.settings();
             let places = places_of(alloc, known, args.as_slice())?;
             of_application(alloc, sig, bank, pools.tests(), vectors, term, *head, places.as_slice())
         }
