@@ -18,3 +18,5 @@ pub mod Breaking
 pub mod PoolFacts
 pub mod Places
 pub mod VectorFacts
+pub mod WordFacts
+pub mod KnownFacts

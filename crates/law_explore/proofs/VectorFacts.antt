@@ -92,7 +92,7 @@ args_read parts bank vectors test less (t ∷ args) (p ∷ places) have = (
   args_read parts bank vectors test less args places have.1,
 )
 
-vector_stays : (parts : SigParts) (old new : List Tree) (t : Tree) (vector : List ℕ) → Grows old new → IsVector parts old t vector → IsVector parts new t vector
+pub vector_stays : (parts : SigParts) (old new : List Tree) (t : Tree) (vector : List ℕ) → Grows old new → IsVector parts old t vector → IsVector parts new t vector
 vector_stays parts old new t vector grows is = record {
   long = is.long;
   values = λ test less. value_stays parts old new test t (id_in vector test) grows (is.values test less);

@@ -2,6 +2,7 @@ ghost use Rattle.std.specs.Prelude.{◌≡◌, ◌<◌, ◌^◌, length, IfOk, I
 ghost use Rattle.indexmap.specs.IndexMap.{get};
 ghost use Rattle.law_sig.specs.Lists.{Each};
 ghost use Rattle.law_sig.specs.Signature.{vars_at};
+ghost use Rattle.law_sig.specs.WellFormed.{IsWellFormed};
 ghost use Rattle.law_sig.specs.declared.tree.Tree.TheVariants.{Var};
 ghost use Rattle.law_value.specs.Values.{AreOf, tree_of, Grows};
 ghost use Rattle.law_gen.specs.Draws.{pools_by};
@@ -110,6 +111,7 @@ fn ids_of(
     vectors: &[Vec<u64>],
     term: &Tree,
 ) -> Result<Vec<u64>, ExploreErr>
+    requires well_formed { IsWellFormed sig.now }
     requires pools { ArePools sig.now bank.old pools.now }
     requires term { IsTestable sig.now term.now }
     requires args { HasKnownArgs sig.now bank.old (get same_items known.now) vectors.now term.now }
@@ -120,7 +122,6 @@ fn ids_of(
     match term {
         Tree::Var(sort, index) => Ok(of_variable(alloc, sig, bank, pools, *sort, *index)?),
         Tree::App(head, args) => {
-            let _well_formed = sig.settings();
             let places = places_of(alloc, known, args.as_slice())?;
             of_application(alloc, sig, bank, pools.tests(), vectors, term, *head, places.as_slice())
         }
@@ -137,6 +138,7 @@ fn vector(
     vectors: &[Vec<u64>],
     term: &Tree,
 ) -> Result<Vec<u64>, ExploreErr>
+    requires well_formed { IsWellFormed sig.now }
     requires pools { ArePools sig.now bank.old pools.now }
     requires term { IsTestable sig.now term.now }
     requires args { HasKnownArgs sig.now bank.old (get same_items known.now) vectors.now term.now }
@@ -168,6 +170,7 @@ pub fn vectors(
     ensures lacks { IfErr result (IsTold sig.now (HasLackingTerm sig.now (pools_by sig.now))) }
     ensures grows { Grows bank.old bank.new }
 {
+    let _well_formed = sig.settings();
     let mut known = IndexMap::new(alloc);
     let mut vectors = Vec::new(alloc);
     for (at, term) in terms.iter().enumerate() {

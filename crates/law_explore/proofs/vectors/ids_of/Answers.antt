@@ -20,7 +20,7 @@ of_application-requires-clause-args c = args_at c.args.sig.now c.args.bank.now (
     c.in_ok-places-in-App.places c.as_slice-in-App.result.now c.requires.args (c.in-App.is ∙ ap (App c.in-App.head) (sym c.as_slice.ensures)) c.in_ok-places-in-App.ensures c.as_slice-in-App.ensures
 
 pub of_application-requires-clause-few : goal.of_application-requires-clause-few
-of_application-requires-clause-few c = few_places c.args.sig.now c.settings-well_formed.ensures.well_formed (get same_items c.args.known.now) c.args.term.now c.in-App.head c.as_slice.result.now
+of_application-requires-clause-few c = few_places c.args.sig.now c.requires.well_formed (get same_items c.args.known.now) c.args.term.now c.in-App.head c.as_slice.result.now
     c.in_ok-places-in-App.places c.as_slice-in-App.result.now c.requires.term (c.in-App.is ∙ ap (App c.in-App.head) (sym c.as_slice.ensures)) c.in_ok-places-in-App.ensures c.as_slice-in-App.ensures
 
 pub returns-in_ok-places-in-App-clause-ids : goal.returns-in_ok-places-in-App-clause-ids
