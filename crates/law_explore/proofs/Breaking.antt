@@ -113,7 +113,8 @@ agrees_not parts number e agrees r first =
 
 -- All equations
 
-each_got : {A : Type 0} (P : A → Type 0) (xs : List A) (n at : ℕ) (x : A) → Each P (take n xs) → at < n → slice_get xs at ≡ Some x → P x
+-- what each of the first items has, the one at a place before has
+pub each_got : {A : Type 0} (P : A → Type 0) (xs : List A) (n at : ℕ) (x : A) → Each P (take n xs) → at < n → slice_get xs at ≡ Some x → P x
 each_got P [] n at x have less e = cc
 each_got P (y ∷ xs) zero at x have less e = absurd (omega arith)
 each_got P (y ∷ xs) (suc n) zero x have less e = subst P (let is : y ≡ x = cc in is) have.0

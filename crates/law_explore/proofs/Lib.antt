@@ -20,3 +20,5 @@ pub mod Places
 pub mod VectorFacts
 pub mod WordFacts
 pub mod KnownFacts
+pub mod VectorsTell
+pub mod RefusalFacts

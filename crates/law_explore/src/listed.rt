@@ -59,6 +59,7 @@ pub fn law_list(alloc: Global, sig: &Sig, terms: u64) -> Result<Listed, ExploreE
     check_background(alloc, sig, &mut bank, &pools)?;
     let terms = universe(alloc, sig)?;
     let vectors = vectors(alloc, sig, &mut bank, &pools, terms.as_slice())?;
+    bank.shared();
     let firsts = first_same(alloc, vectors.as_slice())?;
     let laws = equations(alloc, terms.as_slice(), firsts.as_slice())?;
     let pools = pools.written(alloc, &bank)?;
