@@ -22,3 +22,4 @@ pub mod WordFacts
 pub mod KnownFacts
 pub mod VectorsTell
 pub mod RefusalFacts
+pub mod ListedFacts

@@ -98,8 +98,8 @@ module _ (parts : SigParts) (bank : List Tree) (shared : IsShared bank) (terms :
   all_defined universe sort t u test within =
       subst IsSome (sym ((own_is t ((universe.members t).1 (sort, u))).values test within).is) refl
 
-  pub vectors_tell : Tells parts (pools_by parts) terms own_vector
-  vectors_tell s t s_in t_in =
+  pub vectors_tell : IsUniverse parts terms → Tells parts (pools_by parts) terms own_vector
+  vectors_tell universe s t s_in t_in =
       let v = own_is s s_in in
       let w = own_is t t_in in (
         λ e. (

@@ -1,9 +1,11 @@
 -- What a law list of a signature comes with.
 use Rattle.std.specs.Prelude.{◌≡◌, ℕ, ◌≤◌, List}
 use Rattle.law_sig.specs.Lists.{Each}
-use Rattle.law_sig.specs.Tests.{Pools, assignments, Agrees, IsInBudget}
+use Rattle.law_sig.specs.Tests.{InU, Pools, assignments, Agrees, IsDefined, IsInBudget}
 use Rattle.law_sig.specs.Counts.{term_count}
 use Rattle.law_sig.specs.Laws.{IsLawList, IsCovered}
+use Rattle.law_sig.specs.declared.tree.SortId.{SortId}
+use Rattle.law_sig.specs.declared.tree.Tree.{Tree}
 use Rattle.law_sig.specs.declared.parts.Equation.{Equation}
 use Rattle.law_sig.specs.declared.parts.SigParts.{SigParts}
 use Rattle.law_gen.specs.Draws.{pools_by}
@@ -20,6 +22,12 @@ pub record IsWithin (parts : SigParts) (terms : ℕ) : Type 0 where
   pub small : HasSmallValues parts
   pub background : IsBackgroundTrue parts (pools_by parts)
   pub in_budget : IsInBudget parts (pools_by parts)
+
+-- the law list over the pools of the signature, where every term has a value at every test; and it covers the universe
+pub record AreLaws (parts : SigParts) (laws : List Equation) : Type 0 where
+  pub listed : IsLawList parts (pools_by parts) laws
+  pub covered : IsCovered parts (pools_by parts) laws
+  pub defined : (sort : SortId) (t : Tree) → InU parts sort t → IsDefined parts (pools_by parts) t
 
 -- the law list over the pools of the signature, where nothing refuses; and it covers the universe
 pub record IsLawListOf (parts : SigParts) (terms : ℕ) (pools : Pools) (laws : List Equation) : Type 0 where

@@ -1,8 +1,9 @@
 ghost use Rattle.std.specs.Prelude.{◌≤◌, IfOk, IfErr, IsTrue};
 ghost use Rattle.law_sig.specs.Tests.{assignments};
 ghost use Rattle.law_value.specs.Values.{Grows};
-ghost use Rattle.law_explore.specs.LawList.{IsLawListOf, OneRefusal, NoneWithin};
-ghost use Rattle.law_explore.specs.Refusals.{IsRefusal, HasLargeValue, HasSmallValues, IsTold};
+ghost use Rattle.law_gen.specs.Draws.{pools_by};
+ghost use Rattle.law_explore.specs.LawList.{AreLaws, IsLawListOf, OneRefusal, NoneWithin};
+ghost use Rattle.law_explore.specs.Refusals.{IsRefusal, HasLargeValue, HasSmallValues, HasLackingTerm, IsTold};
 ghost use Rattle.law_explore.specs.Values.{ArePools};
 
 use super::background::check_background;
@@ -42,6 +43,25 @@ fn pools_of(alloc: Global, sig: &Sig, bank: &mut ValueBank) -> Result<Pools, Exp
     }
 }
 
+/// The laws of a signature over its pools.
+fn laws_over(
+    alloc: Global,
+    sig: &Sig,
+    bank: &mut ValueBank,
+    pools: &Pools,
+) -> Result<Seq<Equation>, ExploreErr>
+    requires { ArePools sig.now bank.old pools.now }
+    ensures laws { IfOk result (AreLaws sig.now) }
+    ensures lacks { IfErr result (IsTold sig.now (HasLackingTerm sig.now (pools_by sig.now))) }
+    ensures grows { Grows bank.old bank.new }
+{
+    let terms = universe(alloc, sig)?;
+    let vectors = vectors(alloc, sig, bank, pools, terms.as_slice())?;
+    bank.shared();
+    let firsts = first_same(alloc, vectors.as_slice())?;
+    Ok(equations(alloc, terms.as_slice(), firsts.as_slice())?)
+}
+
 /// The law list of a signature, which covers its universe of at most so many terms. Each error but want of memory tells
 /// the first cause that there is.
 pub fn law_list(alloc: Global, sig: &Sig, terms: u64) -> Result<Listed, ExploreErr>
@@ -57,11 +77,7 @@ pub fn law_list(alloc: Global, sig: &Sig, terms: u64) -> Result<Listed, ExploreE
     let mut bank = ValueBank::new(alloc);
     let pools = pools_of(alloc, sig, &mut bank)?;
     check_background(alloc, sig, &mut bank, &pools)?;
-    let terms = universe(alloc, sig)?;
-    let vectors = vectors(alloc, sig, &mut bank, &pools, terms.as_slice())?;
-    bank.shared();
-    let firsts = first_same(alloc, vectors.as_slice())?;
-    let laws = equations(alloc, terms.as_slice(), firsts.as_slice())?;
+    let laws = laws_over(alloc, sig, &mut bank, &pools)?;
     let pools = pools.written(alloc, &bank)?;
     Ok(Listed { pools, laws })
 }
