@@ -12,3 +12,14 @@ pub mod ProfileFacts
 pub mod ValueFacts
 pub mod PlainFacts
 pub mod InstanceFacts
+pub mod BothFacts
+pub mod Testing
+pub mod Breaking
+pub mod PoolFacts
+pub mod Places
+pub mod VectorFacts
+pub mod WordFacts
+pub mod KnownFacts
+pub mod VectorsTell
+pub mod RefusalFacts
+pub mod ListedFacts

@@ -6,3 +6,6 @@ pub mod Equations
 pub mod Tells
 pub mod Profile
 pub mod Constants
+pub mod Refusals
+pub mod LawList
+pub mod Values

@@ -3,7 +3,7 @@ use Rattle.law_sig.specs.Laws.{IsLawList, IsCovered}
 use Rattle.law_explore.specs.Equations.{equations}
 use Rattle.law_explore.specs.Profile.{given_pools}
 use Rattle.law_explore.proofs.PlainFacts.{IsPlain, AreMade, plain_made, firsts_within, if_ok}
-use Rattle.law_explore.proofs.law_list.plain.Goals as goal
+use Rattle.law_explore.proofs.small.plain.Goals as goal
 
 pub equations-requires-clause-within : goal.equations-requires-clause-within
 equations-requires-clause-within c =

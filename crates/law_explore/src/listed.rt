@@ -1,0 +1,89 @@
+ghost use Rattle.std.specs.Prelude.{◌≤◌, IfOk, IfErr, IsTrue};
+ghost use Rattle.law_sig.specs.Tests.{assignments};
+ghost use Rattle.law_value.specs.Values.{Grows};
+ghost use Rattle.law_gen.specs.Draws.{pools_by};
+ghost use Rattle.law_explore.specs.LawList.{AreLaws, IsLawListOf, OneRefusal, NoneWithin};
+ghost use Rattle.law_explore.specs.Refusals.{IsRefusal, HasLargeValue, HasSmallValues, HasLackingTerm, IsTold};
+ghost use Rattle.law_explore.specs.Values.{ArePools};
+
+use super::background::check_background;
+use super::explore::universe;
+use super::firsts::first_same;
+use super::laws::equations;
+use super::refusal::ExploreErr;
+use super::vectors::vectors;
+use law_gen::{make_pools, GenErr};
+use law_pool::{given_pools, Pools};
+use law_sig::{Equation, PoolRule, Seq, Sig, Tree};
+use law_value::ValueBank;
+use std::alloc::Global;
+
+/// The pools of a signature, by pool, sort and place, and its law list.
+#[derive(Debug, Drop)]
+pub struct Listed {
+    pub pools: Seq<Seq<Seq<Tree>>>,
+    pub laws: Seq<Equation>,
+}
+
+/// The pools of a signature, given or from its seed.
+fn pools_of(alloc: Global, sig: &Sig, bank: &mut ValueBank) -> Result<Pools, ExploreErr>
+    requires { assignments sig.now ≤ 4096 }
+    ensures pools { IfOk result (λ pools. ArePools sig.now bank.new pools) }
+    ensures small { IfOk result (λ pools. HasSmallValues sig.now) }
+    ensures large { IfErr result (IsTold sig.now (HasLargeValue sig.now)) }
+    ensures grows { Grows bank.old bank.new }
+{
+    match &sig.settings().pools {
+        PoolRule::Given(_) => Ok(given_pools(alloc, sig, bank)?),
+        PoolRule::Seeded { .. } => match make_pools(alloc, sig, bank) {
+            Ok(pools) => Ok(pools),
+            Err(GenErr::ValueTooLarge { pool, sort }) => Err(ExploreErr::ValueTooLarge { pool, sort }),
+            Err(GenErr::NoMemory) => Err(ExploreErr::NoMemory),
+        },
+    }
+}
+
+/// The laws of a signature over its pools.
+fn laws_over(
+    alloc: Global,
+    sig: &Sig,
+    bank: &mut ValueBank,
+    pools: &Pools,
+) -> Result<Seq<Equation>, ExploreErr>
+    requires { ArePools sig.now bank.old pools.now }
+    ensures laws { IfOk result (AreLaws sig.now) }
+    ensures lacks { IfErr result (IsTold sig.now (HasLackingTerm sig.now (pools_by sig.now))) }
+    ensures grows { Grows bank.old bank.new }
+{
+    let terms = universe(alloc, sig)?;
+    let vectors = vectors(alloc, sig, bank, pools, terms.as_slice())?;
+    bank.shared();
+    let firsts = first_same(alloc, vectors.as_slice())?;
+    Ok(equations(alloc, terms.as_slice(), firsts.as_slice())?)
+}
+
+/// The law list of a signature, which covers its universe of at most so many terms. Each error but want of memory tells
+/// the first cause that there is.
+pub fn law_list(alloc: Global, sig: &Sig, terms: u64) -> Result<Listed, ExploreErr>
+    ensures listed { IfOk result (λ listed. IsLawListOf sig.now terms listed.pools listed.laws) }
+    ensures refused { IfErr result (IsTold sig.now (IsRefusal sig.now terms)) }
+{
+    let Some(_) = sig.assignments() else {
+        return Err(ExploreErr::Assignments);
+    };
+    let Some(_) = sig.terms_up_to(alloc, terms)? else {
+        return Err(ExploreErr::TooManyTerms);
+    };
+    let mut bank = ValueBank::new(alloc);
+    let pools = pools_of(alloc, sig, &mut bank)?;
+    check_background(alloc, sig, &mut bank, &pools)?;
+    let laws = laws_over(alloc, sig, &mut bank, &pools)?;
+    let pools = pools.written(alloc, &bank)?;
+    Ok(Listed { pools, laws })
+}
+
+/// Does nothing. Its contract says of every signature that it has at most one refusal, and none within its limits.
+pub fn refusal_laws()
+    ensures one { OneRefusal }
+    ensures none { NoneWithin }
+{}
