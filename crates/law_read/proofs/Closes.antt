@@ -1,5 +1,5 @@
 -- What is wanted in a line can be given: whatever is taken so far begins a line that is taken to its end.
-use Rattle.std.proofs.Common.{◌≡◌, ℕ, ◌+◌, ◌<◌, ◌≤◌, Bool, true, false, ◌&&◌, ◌||◌, List, [], ◌∷◌, ◌++◌, Option, Some, None, refl, ap, sym, subst, ◌∙◌, arith, codes, nat_lt, nat_le}
+use Rattle.std.proofs.Common.{◌≡◌, ℕ, ◌+◌, Bool, true, false, ◌&&◌, ◌||◌, List, [], ◌∷◌, ◌++◌, Option, Some, None, refl, ap, sym, subst, ◌∙◌, arith, codes, nat_lt, nat_le}
 use Rattle.std.proofs.lemmas.Bool.Decides.{nat_tests}
 use Rattle.std.proofs.lemmas.List.{append-nil}
 use Rattle.std.specs.Str.{bytes_eq}
@@ -23,7 +23,7 @@ use Rattle.law_read.specs.declared.want.Ending.{Ending}
 use Rattle.law_read.specs.declared.want.Ending.TheVariants as e
 use Rattle.law_read.specs.declared.want.Mark.{Mark}
 use Rattle.law_read.specs.declared.want.Mark.TheVariants.{Equals, Arrow, Height, Count}
-use Rattle.law_read.specs.Walk.{allows_found, before_item, behind, enough, has_mark, is_item, is_mark, item_moved, item_place, key_of, line_wants, end_fault, mark_text, may_come, may_open, moved, pools_wants, root_moved, seed_wants, takes, walk, wants_found}
+use Rattle.law_read.specs.Walk.{allows_found, before_item, enough, has_mark, is_item, is_mark, item_moved, item_place, key_of, line_wants, end_fault, mark_text, may_come, may_open, moved, pools_wants, root_moved, seed_wants, takes, walk, wants_found}
 use Rattle.law_read.proofs.RowSteps.{both}
 use Rattle.law_read.proofs.Again.{RowMark, apart_close, apart_none, apart_space, gap_on, is_solid, item_on, space_on, taken_on, word_on}
 use Rattle.law_read.proofs.AgainRoots.{mark_on}

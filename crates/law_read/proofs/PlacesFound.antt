@@ -1,6 +1,6 @@
 -- The place where the walk stops is the first that has no reading.
-use Rattle.std.proofs.Common.{◌≡◌, ℕ, zero, suc, ◌<◌, ◌==◌, Bool, true, false, ◌&&◌, List, [], ◌∷◌, ◌++◌, Option, Some, None, refl, ap, sym, subst, ◌∙◌, arith, cond, length}
-use Rattle.std.proofs.lemmas.List.{append_assoc, append-nil}
+use Rattle.std.proofs.Common.{◌≡◌, ℕ, zero, suc, ◌<◌, ◌==◌, Bool, true, false, ◌&&◌, List, [], ◌∷◌, ◌++◌, Some, None, refl, ap, sym, subst, ◌∙◌, arith, cond, length}
+use Rattle.std.proofs.lemmas.List.{append_assoc}
 use Rattle.std.specs.List.{list_all, AllByRecursion}
 use Rattle.law_text.specs.Pieces.{Piece, begun_by, is_plain, lengthened, piece_text, pieces}
 use Rattle.law_text.specs.Pieces.Piece.{space, opening, closing, word}
@@ -15,11 +15,10 @@ use Rattle.law_read.specs.declared.want.Want.{Want}
 use Rattle.law_read.specs.declared.want.Want.TheVariants as w
 use Rattle.law_read.specs.Spelling.{line_spelling}
 use Rattle.law_read.specs.Lines.{IsLine}
-use Rattle.law_read.specs.Signature.{IsRawSig}
 use Rattle.law_read.specs.Stages.{InOrder, IsOfVersion, allows, line_key, stage_after, stage_behind, start}
 use Rattle.law_read.specs.Walk.{end_fault, ends, kind_at, may_end, moved, step, takes, walk}
 use Rattle.law_read.specs.Faults.{is_closed_by}
-use Rattle.law_read.specs.Places.{Begun, FirstPlace, StopsThere, place_kind, wanted}
+use Rattle.law_read.specs.Places.{Begun, StopsThere, place_kind, wanted}
 use Rattle.law_read.specs.Laws.{FaultHasPlace}
 use Rattle.law_read.proofs.Again.{apart_close, apart_space, is_solid, solid_first, taken_on}
 use Rattle.law_read.proofs.AgainLines.{line_on}
