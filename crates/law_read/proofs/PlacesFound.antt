@@ -1,6 +1,6 @@
 -- The place where the walk stops is the first that has no reading.
-use Rattle.std.proofs.Common.{◌≡◌, ℕ, zero, suc, ◌<◌, ◌==◌, Bool, true, false, ◌&&◌, List, [], ◌∷◌, ◌++◌, Some, None, refl, ap, sym, subst, ◌∙◌, arith, cond, length}
-use Rattle.std.proofs.lemmas.List.{append_assoc}
+use Rattle.std.proofs.Common.{◌≡◌, ℕ, zero, suc, ◌<◌, ◌==◌, Bool, true, false, ◌&&◌, List, [], ◌∷◌, ◌++◌, Some, None, refl, ap, sym, subst, ◌∙◌, arith, cond, length, inl, inr, ◌⊎◌}
+use Rattle.std.proofs.lemmas.List.{append_assoc, append-nil}
 use Rattle.std.specs.List.{list_all, AllByRecursion}
 use Rattle.law_text.specs.Pieces.{Piece, begun_by, is_plain, lengthened, piece_text, pieces}
 use Rattle.law_text.specs.Pieces.Piece.{space, opening, closing, word}
@@ -17,9 +17,8 @@ use Rattle.law_read.specs.Spelling.{line_spelling}
 use Rattle.law_read.specs.Lines.{IsLine}
 use Rattle.law_read.specs.Stages.{InOrder, IsOfVersion, allows, line_key, stage_after, stage_behind, start}
 use Rattle.law_read.specs.Walk.{end_fault, ends, kind_at, may_end, moved, step, takes, walk}
-use Rattle.law_read.specs.Faults.{is_closed_by}
-use Rattle.law_read.specs.Places.{Begun, StopsThere, place_kind, wanted}
-use Rattle.law_read.specs.Laws.{FaultHasPlace}
+use Rattle.law_read.specs.Faults.{is_closed_by, is_printed, is_spaced, kind_in_order, line_fault}
+use Rattle.law_read.specs.Places.{Begun, FirstPlace, KindBy, LineKind, StopsThere, place_kind, wanted}
 use Rattle.law_read.proofs.Again.{apart_close, apart_space, is_solid, solid_first, taken_on}
 use Rattle.law_read.proofs.AgainLines.{line_on}
 use Rattle.law_read.proofs.Closes.{Apart, Closes, StartsApart, Wanted, closes, piece_left}
@@ -235,7 +234,8 @@ stops_there : (before : List RawLine) (front rest : List Piece) (kind : ReadKind
 stops_there before front [] kind s = s
 stops_there before front (piece ∷ rest) kind s = (not_begun before front piece s.0, s.1)
 
-pub place_law : FaultHasPlace
+pub place_law : (before : List RawLine) (line : List ℕ) (kind : ReadKind) → InOrder start before → AreLines before → is_closed_by (stage_behind start before).last ≡ false
+    → walk 0 (w.Key (stage_behind start before) ∷ []) (pieces line) ≡ Some kind → FirstPlace before line kind
 place_law before line kind order each going e =
     let stage = stage_behind start before in
     let a = some_allowed stage going in
@@ -249,3 +249,69 @@ place_law before line kind order each going e =
       begins = begun_by_line before x.front f.0 x.more order each f.1.allowed f.1.form f.1.spelled (ap pieces f.1.text ∙ x.begins);
       stops = stops_there before x.front x.rest kind x.stops;
     }
+
+-- the kind of a line at fault
+kind_by : (a b c : Bool) (before : List RawLine) (line : List ℕ) (kind : ReadKind) → InOrder start before → AreLines before → is_closed_by (stage_behind start before).last ≡ c
+    → kind_in_order a b c (walk 0 (w.Key (stage_behind start before) ∷ []) (pieces line)) ≡ Some kind → KindBy a b c before line kind
+kind_by false b c before line kind order each e h = some_kind k.Byte kind h
+kind_by true false c before line kind order each e h = some_kind k.Doubled kind h
+kind_by true true true before line kind order each e h = some_kind k.Word kind h
+kind_by true true false before line kind order each e h = place_law before line kind order each e h
+
+pub line_kind : (before : List RawLine) (line : List ℕ) (kind : ReadKind) → InOrder start before → AreLines before → line_fault (stage_behind start before) line ≡ Some kind → LineKind before line kind
+line_kind before line kind order each h = kind_by (list_all is_printed line) (is_spaced line) (is_closed_by (stage_behind start before).last) before line kind order each refl h
+
+-- A line has one first place, and one kind.
+record Further (xs ys left right : List Piece) : Type 0 where
+  more : List Piece
+  is : ys ≡ xs ++ more
+  text : left ≡ more ++ right
+
+fronts : (xs ys left right : List Piece) → xs ++ left ≡ ys ++ right → Further xs ys left right ⊎ Further ys xs right left
+fronts [] ys left right e = inl (record { more = ys; is = refl; text = e })
+fronts (x ∷ xs) [] left right e = inr (record { more = x ∷ xs; is = refl; text = sym e })
+fronts (x ∷ xs) (y ∷ ys) left right e =
+    let f : x ≡ y = cc in let g : xs ++ left ≡ ys ++ right = cc in longer x y xs ys left right f (fronts xs ys left right g)
+  where
+    longer : (x y : Piece) (xs ys left right : List Piece) → x ≡ y → Further xs ys left right ⊎ Further ys xs right left → Further (x ∷ xs) (y ∷ ys) left right ⊎ Further (y ∷ ys) (x ∷ xs) right left
+    longer x y xs ys left right e (inl a) = inl (record { more = a.more; is = ap (λ l. l ∷ ys) (sym e) ∙ ap (λ l. x ∷ l) a.is; text = a.text })
+    longer x y xs ys left right e (inr a) = inr (record { more = a.more; is = ap (λ l. l ∷ xs) e ∙ ap (λ l. y ∷ l) a.is; text = a.text })
+
+one_stop : (before : List RawLine) (front rest : List Piece) (kind why : ReadKind) → StopsThere before front rest kind → StopsThere before front rest why → kind ≡ why
+one_stop before front [] kind why a b = a ∙ sym b
+one_stop before front (piece ∷ rest) kind why a b = a.1 ∙ sym b.1
+
+fewer : (before : List RawLine) (front : List Piece) (piece : Piece) (more : List Piece) → Begun before (front ++ piece ∷ more) → Begun before (front ++ piece ∷ [])
+fewer before front piece more b = record {
+  line = b.line;
+  after = b.after;
+  signature = b.signature;
+  rest = more ++ b.rest;
+  begins = b.begins ∙ ap (λ l. l ++ b.rest) (sym (append_assoc front (piece ∷ []) more)) ∙ append_assoc (front ++ piece ∷ []) more b.rest;
+}
+
+stops_before : (before : List RawLine) (front rest : List Piece) (kind : ReadKind) (piece : Piece) (more : List Piece) → rest ≡ piece ∷ more → StopsThere before front rest kind → Begun before (front ++ piece ∷ []) → ⊥
+stops_before before front [] kind piece more e s b = cc
+stops_before before front (q ∷ rest) kind piece more e s b = let f : piece ≡ q = cc in s.0 (subst (λ p. Begun before (front ++ p ∷ [])) f b)
+
+further : (before : List RawLine) (line : List ℕ) (kind why : ReadKind) (x : FirstPlace before line kind) (y : FirstPlace before line why) (more : List Piece) → y.front ≡ x.front ++ more → x.rest ≡ more ++ y.rest → kind ≡ why
+further before line kind why x y [] e f =
+    one_stop before y.front y.rest kind why (subst (λ l. StopsThere before y.front l kind) f (subst (λ l. StopsThere before l x.rest kind) (sym (e ∙ append-nil x.front)) x.stops)) y.stops
+further before line kind why x y (piece ∷ more) e f =
+    absurd (stops_before before x.front x.rest kind piece (more ++ y.rest) f x.stops (fewer before x.front piece more (subst (Begun before) e y.begins)))
+
+one_place : (before : List RawLine) (line : List ℕ) (kind why : ReadKind) → FirstPlace before line kind → FirstPlace before line why → kind ≡ why
+one_place before line kind why x y = by (fronts x.front y.front x.rest y.rest (sym x.split ∙ y.split))
+  where
+    by : Further x.front y.front x.rest y.rest ⊎ Further y.front x.front y.rest x.rest → kind ≡ why
+    by (inl a) = further before line kind why x y a.more a.is a.text
+    by (inr a) = sym (further before line why kind y x a.more a.is a.text)
+
+one_by : (a b c : Bool) (before : List RawLine) (line : List ℕ) (kind why : ReadKind) → KindBy a b c before line kind → KindBy a b c before line why → kind ≡ why
+one_by false b c before line kind why x y = x ∙ sym y
+one_by true false c before line kind why x y = x ∙ sym y
+one_by true true true before line kind why x y = x ∙ sym y
+one_by true true false before line kind why x y = one_place before line kind why x y
+
+pub one_kind : (before : List RawLine) (line : List ℕ) (kind why : ReadKind) → LineKind before line kind → LineKind before line why → kind ≡ why
+one_kind before line kind why x y = one_by (list_all is_printed line) (is_spaced line) (is_closed_by (stage_behind start before).last) before line kind why x y

@@ -1,6 +1,5 @@
 -- Laws of the texts, each proved by the contract of a function in `src/laws.rt`.
-use Rattle.std.specs.Prelude.{◌≡◌, ℕ, true, List, [], ◌∷◌, Some, None, false}
-use Rattle.std.specs.List.{AllByRecursion}
+use Rattle.std.specs.Prelude.{◌≡◌, ℕ, true, List, [], ◌∷◌, None}
 use Rattle.law_text.specs.Pieces.{pieces}
 use Rattle.law_read.specs.declared.raw.RawLine.{RawLine}
 use Rattle.law_read.specs.declared.raw.RawTerm.{RawTerm}
@@ -14,10 +13,9 @@ use Rattle.law_read.specs.Signature.{IsRawSig}
 use Rattle.law_read.specs.Texts.{FirstFault}
 use Rattle.law_read.specs.declared.error.ReadKind.{ReadKind}
 use Rattle.law_read.specs.Lines.{IsLine}
-use Rattle.law_read.specs.Stages.{InOrder, IsOfVersion, allows, line_key, stage_behind, start}
+use Rattle.law_read.specs.Stages.{IsOfVersion, allows, line_key}
 use Rattle.law_read.specs.Walk.{walk}
-use Rattle.law_read.specs.Faults.{is_closed_by, line_fault}
-use Rattle.law_read.specs.Places.{FirstPlace}
+use Rattle.law_read.specs.Faults.{line_fault}
 
 -- A line that may come at a stage and that the grammar spells is read to its end.
 abbrev pub SpelledIsWalked : Type 0
@@ -39,11 +37,6 @@ pub record Comes (stage : Stage) (bytes : List ℕ) : Type 0 where
 
 abbrev pub ReadIsSpelled : Type 0
 ReadIsSpelled = (stage : Stage) (bytes : List ℕ) → line_fault stage bytes ≡ None → Comes stage bytes
-
--- Where a line is at fault for a place in it, that is the first place with which it begins no line that may come.
-abbrev pub FaultHasPlace : Type 0
-FaultHasPlace = (before : List RawLine) (line : List ℕ) (kind : ReadKind) → InOrder start before → AllByRecursion (IsLine Kept) before → is_closed_by (stage_behind start before).last ≡ false
-    → walk 0 (w.Key (stage_behind start before) ∷ []) (pieces line) ≡ Some kind → FirstPlace before line kind
 
 -- A text with a first fault is the spelling of no signature, and it has one first fault: number and kind.
 abbrev pub RefusedIsNoText : Type 0

@@ -1,5 +1,6 @@
--- The first place of a line that has no reading.
-use Rattle.std.specs.Prelude.{◌≡◌, ℕ, List, [], ◌∷◌, ◌++◌}
+-- Why a line has no reading: its kind, and its first place that has none.
+use Rattle.std.specs.Prelude.{◌≡◌, ℕ, Bool, true, false, List, [], ◌∷◌, ◌++◌}
+use Rattle.std.specs.List.{list_all}
 use Rattle.law_text.specs.Pieces.{Piece, pieces}
 use Rattle.law_read.specs.declared.raw.RawLine.{RawLine}
 use Rattle.law_read.specs.declared.want.Want.{Want}
@@ -9,6 +10,7 @@ use Rattle.law_read.specs.declared.error.ReadKind.TheVariants as k
 use Rattle.law_read.specs.Spelling.{line_spelling}
 use Rattle.law_read.specs.Signature.{IsRawSig}
 use Rattle.law_read.specs.Stages.{stage_behind, start}
+use Rattle.law_read.specs.Faults.{is_closed_by, is_printed, is_spaced}
 use Rattle.law_read.specs.Walk.{State, kind_at, moved}
 
 -- Some signature has, behind these lines, a line that begins with these pieces.
@@ -45,3 +47,14 @@ pub record FirstPlace (before : List RawLine) (line : List ℕ) (kind : ReadKind
   pub split : pieces line ≡ front ++ rest
   pub begins : Begun before front
   pub stops : StopsThere before front rest kind
+
+-- The kind of a line that has no reading behind these: the first of these that applies. A byte is out of range; a space
+-- leads, trails or is doubled; the line stands behind `end`; or its first place without a reading decides.
+abbrev pub KindBy : Bool → Bool → Bool → List RawLine → List ℕ → ReadKind → Type 0
+KindBy false spaced closed before line kind = kind ≡ k.Byte
+KindBy true false closed before line kind = kind ≡ k.Doubled
+KindBy true true true before line kind = kind ≡ k.Word
+KindBy true true false before line kind = FirstPlace before line kind
+
+abbrev pub LineKind : List RawLine → List ℕ → ReadKind → Type 0
+LineKind before line kind = KindBy (list_all is_printed line) (is_spaced line) (is_closed_by (stage_behind start before).last) before line kind

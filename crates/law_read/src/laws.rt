@@ -1,4 +1,4 @@
-ghost use Rattle.law_read.specs.Laws.{FaultHasPlace, OneFault, OneTerm, OneText, ReadIsSpelled, RefusedIsNoText, SpelledIsRead, SpelledIsWalked};
+ghost use Rattle.law_read.specs.Laws.{OneFault, OneTerm, OneText, ReadIsSpelled, RefusedIsNoText, SpelledIsRead, SpelledIsWalked};
 
 /// Each line that may come at a stage and that the grammar spells is read to its end, and has no fault; and a
 /// line without a fault is the spelling of one that may come.
@@ -18,10 +18,4 @@ pub fn refused_texts_are_none()
 pub fn texts_have_one_reading()
     ensures text { OneText }
     ensures term { OneTerm }
-{}
-
-/// Where a line is at fault for a place in it, no line that may come begins so up to that place, and one does up to
-/// just before it.
-pub fn faults_have_places()
-    ensures { FaultHasPlace }
 {}

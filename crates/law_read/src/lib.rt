@@ -18,9 +18,7 @@ mod want;
 mod write;
 
 pub use error::{ReadErr, ReadKind};
-pub use laws::{
-    faults_have_places, refused_texts_are_none, spelled_lines_are_read, texts_have_one_reading,
-};
+pub use laws::{refused_texts_are_none, spelled_lines_are_read, texts_have_one_reading};
 pub use raw::{RawHead, RawLine, RawTerm};
 pub use read::{read_sig, read_term};
 pub use sig::RawSig;
