@@ -1,9 +1,7 @@
 -- What the walk takes to the end is spelled: rows of names and terms, and terms by themselves.
-use Rattle.std.proofs.Common.{◌≡◌, ℕ, zero, suc, ◌+◌, ◌^◌, ◌<◌, ◌≤◌, ◌==◌, Bool, true, false, ◌&&◌, ◌||◌, List, [], ◌∷◌, ◌++◌, Option, Some, None, refl, ap, sym, subst, ◌∙◌, arith, length, decimal, is_some, nat_lt, inl, inr, ◌⊎◌}
+use Rattle.std.proofs.Common.{◌≡◌, ℕ, zero, suc, ◌+◌, ◌^◌, ◌<◌, ◌≤◌, ◌==◌, Bool, true, false, ◌&&◌, ◌||◌, List, [], ◌∷◌, ◌++◌, Option, Some, None, refl, ap, sym, ◌∙◌, arith, length, decimal, is_some, nat_lt, inl, inr, ◌⊎◌}
 use Rattle.std.proofs.lemmas.Bool.{eqb-true}
 use Rattle.std.proofs.lemmas.Bool.Decides.{nat_tests}
-use Rattle.std.proofs.lemmas.List.{length-append}
-use Rattle.std.specs.List.{list_all}
 use Rattle.law_text.specs.Words.{is_word_of_letters, number_below}
 use Rattle.law_text.specs.Pieces.{FirstPiece, Piece, piece_text, pieces}
 use Rattle.law_text.specs.Pieces.Piece.{space, opening, closing, word}
@@ -12,7 +10,6 @@ use Rattle.law_text.proofs.Numbers.{number_found}
 use Rattle.law_read.specs.declared.raw.RawHead.{RawHead}
 use Rattle.law_read.specs.declared.raw.RawHead.TheVariants.{Name, Var, Param, Field}
 use Rattle.law_read.specs.declared.raw.RawTerm.{RawTerm}
-use Rattle.law_read.specs.declared.raw.RawTerm.TheViews.{roll-RawTerm}
 use Rattle.law_read.specs.declared.want.Want.{Want}
 use Rattle.law_read.specs.declared.want.Want.TheVariants as w
 use Rattle.law_read.specs.declared.want.Bounds.TheVariants.{Kept}
@@ -23,11 +20,10 @@ use Rattle.law_read.specs.declared.want.Row.TheVariants as r
 use Rattle.law_read.specs.declared.want.Ending.{Ending}
 use Rattle.law_read.specs.declared.want.Ending.TheVariants as e
 use Rattle.law_read.specs.declared.want.Mark.{Mark}
-use Rattle.law_read.specs.Spelling.{spaced}
 use Rattle.law_read.specs.Terms.{is_name_in}
-use Rattle.law_read.specs.Walk.{walk, before_item, behind, cut, end_fault, ends, is_atom, is_index, is_item, is_mark, is_numbered, is_special, is_variable, is_word_want, item_place, mark_text, may_come, may_end, may_open, moved, root_moved, takes, takes_word}
-use Rattle.law_read.specs.Reads.{Ended, Reads, Took, TookWord}
-use Rattle.law_read.specs.Rows.{AtomRead, BehindRead, IsNameRow, IsRootEnding, IsTermRow, ItemRead, NameRead, NamesRead, NamesSoFar, RootRead, RowEnds, RowGoes, RowRead, RowSoFar, closer, nodes_behind}
+use Rattle.law_read.specs.Walk.{walk, before_item, behind, cut, end_fault, ends, is_atom, is_index, is_mark, is_special, is_variable, is_word_want, item_place, mark_text, may_end, may_open, moved, root_moved, takes}
+use Rattle.law_read.specs.Reads.{Reads, Took, TookWord}
+use Rattle.law_read.specs.Rows.{AtomRead, BehindRead, IsNameRow, IsRootEnding, IsTermRow, ItemRead, NamesRead, NamesSoFar, RootRead, RowEnds, RowGoes, RowRead, RowSoFar, nodes_behind}
 use Rattle.law_read.proofs.Cuts.{variable_read}
 use Rattle.law_read.proofs.Parts.{fixed_read, gap_read}
 use Rattle.law_read.proofs.RowSteps.{both, item_opened, item_word, mark_read, opens_low, row_at_end, row_closed, row_goes, word_is_atom}

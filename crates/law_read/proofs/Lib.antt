@@ -5,6 +5,7 @@ pub mod AgainRoots
 pub mod AgainLines
 pub mod Clean
 pub mod CleanLines
+pub mod Closes
 pub mod Completes
 pub mod Cuts
 pub mod FirstFaults
@@ -14,6 +15,7 @@ pub mod OneTerm
 pub mod OrderRows
 pub mod Orders
 pub mod Parts
+pub mod PlacesFound
 pub mod RowNames
 pub mod RowSteps
 pub mod RowWhole

@@ -1,6 +1,6 @@
 -- A line that the walk takes to its end is spelled by the grammar.
-use Rattle.std.proofs.Common.{◌≡◌, ℕ, ◌+◌, ◌^◌, ◌<◌, Bool, true, false, ◌||◌, List, [], ◌∷◌, ◌++◌, Option, Some, None, refl, ap, sym, subst, ◌∙◌, arith, codes, decimal, is_some, length, map}
-use Rattle.std.proofs.lemmas.List.{append_assoc, append-nil}
+use Rattle.std.proofs.Common.{◌≡◌, ℕ, ◌^◌, ◌<◌, Bool, true, false, ◌||◌, List, [], ◌∷◌, ◌++◌, Option, Some, None, refl, ap, sym, ◌∙◌, arith, codes, decimal, is_some, length, map}
+use Rattle.std.proofs.lemmas.List.{append-nil}
 use Rattle.std.specs.Str.{bytes_eq}
 use Rattle.law_text.specs.Words.{number_below}
 use Rattle.law_text.specs.Pieces.{pieces}
@@ -23,15 +23,13 @@ use Rattle.law_read.specs.declared.want.Mark.{Mark}
 use Rattle.law_read.specs.declared.want.Mark.TheVariants.{Equals, Arrow, Height, Count}
 use Rattle.law_read.specs.Spelling.{arg_spelling, spaced, term_spelling, term_words}
 use Rattle.law_read.specs.Terms.{is_name_in}
-use Rattle.law_read.specs.Stages.{allows, key_text, of_version}
+use Rattle.law_read.specs.Stages.{key_text, of_version}
 use Rattle.law_read.specs.declared.shape.Shape.TheVariants as s
 use Rattle.law_read.specs.Walk.{allows_found, key_of, line_wants, mark_text, pools_wants, seed_wants, setting, walk, wants_found}
-use Rattle.law_read.specs.Reads.{Reads}
 use Rattle.law_read.specs.Faults.{is_closed_by, is_printed, is_spaced, kind_in_order}
 use Rattle.law_read.specs.Laws.{ReadIsSpelled}
 use Rattle.law_read.specs.declared.error.ReadKind.{ReadKind}
 use Rattle.std.specs.List.{list_all}
-use Rattle.law_read.specs.Rows.{NamesRead}
 use Rattle.law_read.specs.LineReads.{LineRead, RestRead, rule_text}
 use Rattle.law_read.specs.Lines.{AreSorts}
 use Rattle.law_read.proofs.Spaced.{spaced_append}
@@ -213,9 +211,13 @@ seed_text old h =
     let c = spaced_number b.new (w.Gap ∷ w.Fixed Count ∷ w.Gap ∷ w.Number ∷ []) b.left in
     let d = spaced_mark Count c.new (w.Gap ∷ w.Number ∷ []) c.left in
     let f = spaced_number d.new [] d.left in
-    let four = decimal f.n ∷ [] in let three = codes "count" ∷ four in let two = decimal c.n ∷ three in let one = codes "height" ∷ two in
-    (
-      a.n, c.n, f.n, a.small, c.small, f.small,
+    let four = decimal f.n ∷ [] in let three = codes "count" ∷ four in let two = decimal c.n ∷ three in let one = codes "height" ∷ two in (
+      a.n,
+      c.n,
+      f.n,
+      a.small,
+      c.small,
+      f.small,
       worded (decimal a.n) one old a.new a.word (worded (codes "height") two a.new b.new b.word (worded (decimal c.n) three b.new c.new c.word (worded (codes "count") four c.new d.new d.word
           (worded (decimal f.n) [] d.new f.new f.word (none_on f.new (end_at f.new f.left)))))),
     )
@@ -242,9 +244,13 @@ pools_found = λ version old h.
 sort_sized : (old : List ℕ) → walk 0 (w.Gap ∷ w.Name ∷ w.Gap ∷ w.Number ∷ w.Gap ∷ w.Number ∷ []) (pieces old) ≡ None
     → (name : List ℕ) × (vars : ℕ) × (width : ℕ) × (is_name_in Kept name ≡ true) × (vars < 2 ^ 63) × (width < 2 ^ 63) × (spaced (name ∷ decimal vars ∷ decimal width ∷ []) ≡ old)
 sort_sized old h =
-    let a = spaced_name old (w.Gap ∷ w.Number ∷ w.Gap ∷ w.Number ∷ []) h in let b = spaced_number a.new (w.Gap ∷ w.Number ∷ []) a.left in let c = spaced_number b.new [] b.left in
-    (
-      a.name, b.n, c.n, a.named, b.small, c.small,
+    let a = spaced_name old (w.Gap ∷ w.Number ∷ w.Gap ∷ w.Number ∷ []) h in let b = spaced_number a.new (w.Gap ∷ w.Number ∷ []) a.left in let c = spaced_number b.new [] b.left in (
+      a.name,
+      b.n,
+      c.n,
+      a.named,
+      b.small,
+      c.small,
       worded a.name (decimal b.n ∷ decimal c.n ∷ []) old a.new a.word (worded (decimal b.n) (decimal c.n ∷ []) a.new b.new b.word (worded (decimal c.n) [] b.new c.new c.word (none_on c.new (end_at c.new c.left)))),
     )
 
