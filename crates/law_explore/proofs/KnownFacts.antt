@@ -63,8 +63,8 @@ module _ (parts : SigParts) (terms : List Tree) (universe : IsUniverse parts ter
         | inl less ↦ (k, less, s_is)
         | inr more ↦ elim (eq-or-lt_of_le more) [
           | inl same ↦
-            let is : s ≡ t = some_is (sym s_is ∙ ap (slice_get terms) (sym same) ∙ t_is) in
-            absurd (never_before_itself parts t (subst (λ x. IsBefore parts x t) is before))
+              let is : s ≡ t = some_is (sym s_is ∙ ap (slice_get terms) (sym same) ∙ t_is) in
+              absurd (never_before_itself parts t (subst (λ x. IsBefore parts x t) is before))
           | inr less ↦ absurd (never_before_itself parts s (before_chain parts s t s before (rising_places (IsBefore parts) terms at k t s universe.ordered less t_is s_is)))
         ]
       ]

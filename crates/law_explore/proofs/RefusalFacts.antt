@@ -149,8 +149,8 @@ one_at parts pools at r q h k =
 one_lack : (parts : SigParts) (pools : Pools) (t : Tree) → IsOne (LacksValue parts pools t)
 one_lack parts pools t r q h k =
     let same = same_place h.test k.test
-      (λ less. true≢false (sym (subst IsSome h.lacks (k.before h.test less))))
-      (λ more. true≢false (sym (subst IsSome k.lacks (h.before k.test more)))) in
+    (λ less. true≢false (sym (subst IsSome h.lacks (k.before h.test less))))
+    (λ more. true≢false (sym (subst IsSome k.lacks (h.before k.test more)))) in
     h.is ∙ ap (Over t) same ∙ sym k.is
 
 one_term : (parts : SigParts) (pools : Pools) → IsOne (HasLackingTerm parts pools)
@@ -185,8 +185,8 @@ one_large parts r q h k =
     let other = k.3 in
     let pools = pools_by parts in
     let pool : h.0 ≡ k.0 = same_place h.0 k.0
-      (λ less. large_in first.sorts h.1 first.first (each_got (Each AreSmall) pools k.0 h.0 first.sorts other.before less first.there))
-      (λ more. large_in other.sorts k.1 other.first (each_got (Each AreSmall) pools h.0 k.0 other.sorts first.before more other.there)) in
+    (λ less. large_in first.sorts h.1 first.first (each_got (Each AreSmall) pools k.0 h.0 first.sorts other.before less first.there))
+    (λ more. large_in other.sorts k.1 other.first (each_got (Each AreSmall) pools h.0 k.0 other.sorts first.before more other.there)) in
     let sorts : first.sorts ≡ other.sorts = some_is (sym first.there ∙ ap (slice_get pools) pool ∙ other.there) in
     let own : IsFirstIn other.sorts h.1 = subst (λ l. IsFirstIn l h.1) sorts first.first in
     let sort : h.1 ≡ k.1 = same_sort h.1 k.1 (same_place h.1.0 k.1.0 (large_before other.sorts h.1 k.1 own other.first) (large_before other.sorts k.1 h.1 other.first own)) in

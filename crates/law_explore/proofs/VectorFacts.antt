@@ -33,9 +33,6 @@ place_last : (xs : List ℕ) (x : ℕ) → slice_index_or (xs ++ x ∷ []) (leng
 place_last [] x = refl
 place_last (y ∷ xs) x = place_last xs x
 
-
-
-
 pub ids_none : (parts : SigParts) (bank : List Tree) (t : Tree) (ids : List ℕ) → ids ≡ [] → AreIds parts bank t 0 ids
 ids_none parts bank t ids e = record { one_each = ap length e; values = λ k less. absurd (omega arith) }
 
@@ -51,13 +48,13 @@ ids_next parts old new t test ids more v are grows is e = subst (AreIds parts ne
   one_each = length_push ids v.0 ∙ ap (λ n. n + 1) are.one_each;
   values = λ k less. elim (cases_lt k test) [
     | inl l ↦
-      let long = are.one_each in
-      let same : slice_index_or (ids ++ v.0 ∷ []) k 0 ≡ slice_index_or ids k 0 = place_before ids v.0 k (omega arith) in
-      subst (IsValue parts new k t) (ap id_is (sym same)) (value_stays parts old new k t (id_in ids k) grows (are.values k l))
+        let long = are.one_each in
+        let same : slice_index_or (ids ++ v.0 ∷ []) k 0 ≡ slice_index_or ids k 0 = place_before ids v.0 k (omega arith) in
+        subst (IsValue parts new k t) (ap id_is (sym same)) (value_stays parts old new k t (id_in ids k) grows (are.values k l))
     | inr l ↦
-      let is_test : test ≡ k = omega arith in
-      let same : slice_index_or (ids ++ v.0 ∷ []) k 0 ≡ v.0 = ap (λ n. slice_index_or (ids ++ v.0 ∷ []) n 0) (sym is_test ∙ sym are.one_each) ∙ place_last ids v.0 in
-      subst (λ n. IsValue parts new n t (id_in (ids ++ v.0 ∷ []) k)) is_test (subst (IsValue parts new test t) (ap id_is (sym same)) is)
+        let is_test : test ≡ k = omega arith in
+        let same : slice_index_or (ids ++ v.0 ∷ []) k 0 ≡ v.0 = ap (λ n. slice_index_or (ids ++ v.0 ∷ []) n 0) (sym is_test ∙ sym are.one_each) ∙ place_last ids v.0 in
+        subst (λ n. IsValue parts new n t (id_in (ids ++ v.0 ∷ []) k)) is_test (subst (IsValue parts new test t) (ap id_is (sym same)) is)
   ];
 })
   where
@@ -112,7 +109,7 @@ pub arg_values : (parts : SigParts) (old bank : List Tree) (vectors : List (Vec 
 arg_values parts old bank vectors test tests term f places h grows less count =
     let within : test < tests_by parts = subst (λ n. test < n) count less in
     let have : HaveVectors parts bank vectors h.args places = both_map (HasVector parts old vectors) (HasVector parts bank vectors)
-      (λ t p k. record { vector = k.vector; there = k.there; is = vector_stays parts old bank t k.vector.items grows k.is }) h.args places h.have in
+    (λ t p k. record { vector = k.vector; there = k.there; is = vector_stays parts old bank t k.vector.items grows k.is }) h.args places h.have in
     let values = args_values parts bank vectors test within h.args places have in
     record {
       read = args_read parts bank vectors test within h.args places have;

@@ -6,7 +6,7 @@ ghost use Rattle.law_explore.specs.LawList.{IsBackgroundTrue};
 ghost use Rattle.law_explore.specs.Refusals.{Breaks, IsFirstAnswer, HasBrokenBackground, IsTold};
 ghost use Rattle.law_explore.specs.Values.{ArePools, IsTestable, IsValue, IsLacking, HoldsAt, tests_by};
 
-use super::refusal::{over, ExploreErr};
+use super::refusal::{ExploreErr, over};
 use super::values::value;
 use law_eval::EvalErr;
 use law_pool::Pools;

@@ -12,8 +12,8 @@ use super::firsts::first_same;
 use super::laws::equations;
 use super::refusal::ExploreErr;
 use super::vectors::vectors;
-use law_gen::{make_pools, GenErr};
-use law_pool::{given_pools, Pools};
+use law_gen::{GenErr, make_pools};
+use law_pool::{Pools, given_pools};
 use law_sig::{Equation, PoolRule, Seq, Sig, Tree};
 use law_value::ValueBank;
 use std::alloc::Global;
@@ -37,7 +37,10 @@ fn pools_of(alloc: Global, sig: &Sig, bank: &mut ValueBank) -> Result<Pools, Exp
         PoolRule::Given(_) => Ok(given_pools(alloc, sig, bank)?),
         PoolRule::Seeded { .. } => match make_pools(alloc, sig, bank) {
             Ok(pools) => Ok(pools),
-            Err(GenErr::ValueTooLarge { pool, sort }) => Err(ExploreErr::ValueTooLarge { pool, sort }),
+            Err(GenErr::ValueTooLarge { pool, sort }) => Err(ExploreErr::ValueTooLarge {
+                pool,
+                sort,
+            }),
             Err(GenErr::NoMemory) => Err(ExploreErr::NoMemory),
         },
     }

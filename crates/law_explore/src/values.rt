@@ -2,7 +2,7 @@ ghost use Rattle.std.specs.Prelude.{◌≡◌, ◌<◌, None, IfOk, IsErrOf};
 ghost use Rattle.law_value.specs.Values.{Grows};
 ghost use Rattle.law_explore.specs.Values.{ArePools, IsTestable, IsValue, tests_by, val_by};
 
-use law_eval::{apply, EvalErr};
+use law_eval::{EvalErr, apply};
 use law_pool::Pools;
 use law_sig::{Seq, Sig, Tree};
 use law_value::{ValueBank, ValueId};

@@ -12,10 +12,10 @@ ghost use Rattle.law_explore.specs.Refusals.{LacksValue, HasLackingTerm, IsTold}
 ghost use Rattle.law_explore.specs.Values.{ArePools, IsTestable, AreIds, IsVector, AreVectors, HasKnownArgs, HasArgsAt, IsRead, IsMadeIn, applied_value, ids_at, tests_by};
 
 use super::firsts::note;
-use super::refusal::{over, ExploreErr};
+use super::refusal::{ExploreErr, over};
 use super::words::{places_of, word_of};
 use indexmap::IndexMap;
-use law_eval::{apply, EvalErr};
+use law_eval::{EvalErr, apply};
 use law_pool::Pools;
 use law_sig::{NoMemory, Seq, Sig, SortId, SymId, Tree};
 use law_value::{ValueBank, ValueId};
@@ -123,7 +123,16 @@ fn ids_of(
         Tree::Var(sort, index) => Ok(of_variable(alloc, sig, bank, pools, *sort, *index)?),
         Tree::App(head, args) => {
             let places = places_of(alloc, known, args.as_slice())?;
-            of_application(alloc, sig, bank, pools.tests(), vectors, term, *head, places.as_slice())
+            of_application(
+                alloc,
+                sig,
+                bank,
+                pools.tests(),
+                vectors,
+                term,
+                *head,
+                places.as_slice(),
+            )
         }
     }
 }

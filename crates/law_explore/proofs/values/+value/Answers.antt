@@ -9,7 +9,8 @@ use Rattle.law_explore.proofs.values.+value.Goals as goal
 
 pub value-requires : goal.value-requires
 value-requires t c = (
-  search (rules, the_lemmas), (
+  search (rules, the_lemmas),
+  (
     pools_stay c.args.sig.now c.args.bank.now c.loop-arg.bank c.args.pools.now c.loop-arg.invariant.grows c.requires.pools,
     (
       c.requires.test,

@@ -41,10 +41,10 @@ returns-in_err-word_of-clause-grows c = grows_on c.args.bank.now c.loop-at.bank 
 pub loop-at-preserved : goal.loop-at-preserved
 loop-at-preserved c =
     let here = slice_get-map word c.args.terms.now c.loop-at.at
-      ∙ ap (option_map word) (slice_get-get_or c.args.terms.now c.loop-at.at c.index-terms-at.result c.loop-at-test.true ∙ ap Some (sym c.index-terms-at.is))
-      ∙ ap Some (sym c.in_ok-word_of.ensures) in
+    ∙ ap (option_map word) (slice_get-get_or c.args.terms.now c.loop-at.at c.index-terms-at.result c.loop-at-test.true ∙ ap Some (sym c.index-terms-at.is))
+    ∙ ap Some (sym c.in_ok-word_of.ensures) in
     let step = noted (map word c.args.terms.now) c.loop-at.at (get same_items c.loop-at.known) (get same_items c.note.new.places) c.in_ok-word_of.field-0 c.in_ok-note.field-0
-      here c.loop-at.invariant.known c.in_ok-note.ensures in
+    here c.loop-at.invariant.known c.in_ok-note.ensures in
     record {
       grows = grows_on c.args.bank.now c.loop-at.bank c.vector.new.bank c.loop-at.invariant.grows c.vector.ensures.grows;
       vectors = vectors_next c.args.sig.now c.loop-at.bank c.vector.new.bank c.args.terms.now c.loop-at.at c.index-terms-at.result c.loop-at.vectors.items c.push.new.self.items
