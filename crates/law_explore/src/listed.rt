@@ -6,12 +6,11 @@ ghost use Rattle.law_explore.specs.LawList.{AreLaws, IsLawListOf, OneRefusal, No
 ghost use Rattle.law_explore.specs.Refusals.{IsRefusal, HasLargeValue, HasSmallValues, HasLackingTerm, IsTold};
 ghost use Rattle.law_explore.specs.Values.{ArePools};
 
-use super::background::check_background;
 use super::explore::universe;
 use super::firsts::first_same;
 use super::laws::equations;
 use super::refusal::ExploreErr;
-use super::vectors::vectors;
+use super::values::Tester;
 use law_gen::{GenErr, make_pools};
 use law_pool::{Pools, given_pools};
 use law_sig::{Equation, PoolRule, Seq, Sig, Tree};
@@ -49,17 +48,16 @@ fn pools_of(alloc: Global, sig: &Sig, bank: &mut ValueBank) -> Result<Pools, Exp
 /// The laws of a signature over its pools.
 fn laws_over(
     alloc: Global,
-    sig: &Sig,
+    tester: &Tester<'_>,
     bank: &mut ValueBank,
-    pools: &Pools,
 ) -> Result<Seq<Equation>, ExploreErr>
-    requires { ArePools sig.now bank.old pools.now }
-    ensures laws { IfOk result (AreLaws sig.now) }
-    ensures lacks { IfErr result (IsTold sig.now (HasLackingTerm sig.now (pools_by sig.now))) }
+    requires { ArePools tester.now.sig.now bank.old tester.now.pools.now }
+    ensures laws { IfOk result (AreLaws tester.now.sig.now) }
+    ensures lacks { IfErr result (IsTold tester.now.sig.now (HasLackingTerm tester.now.sig.now (pools_by tester.now.sig.now))) }
     ensures grows { Grows bank.old bank.new }
 {
-    let terms = universe(alloc, sig)?;
-    let vectors = vectors(alloc, sig, bank, pools, terms.as_slice())?;
+    let terms = universe(alloc, tester.sig)?;
+    let vectors = tester.vectors(bank, terms.as_slice())?;
     bank.shared();
     let firsts = first_same(alloc, vectors.as_slice())?;
     Ok(equations(alloc, terms.as_slice(), firsts.as_slice())?)
@@ -79,8 +77,13 @@ pub fn law_list(alloc: Global, sig: &Sig, terms: u64) -> Result<Listed, ExploreE
     };
     let mut bank = ValueBank::new(alloc);
     let pools = pools_of(alloc, sig, &mut bank)?;
-    check_background(alloc, sig, &mut bank, &pools)?;
-    let laws = laws_over(alloc, sig, &mut bank, &pools)?;
+    let tester = Tester {
+        alloc,
+        sig,
+        pools: &pools,
+    };
+    tester.check_background(&mut bank)?;
+    let laws = laws_over(alloc, &tester, &mut bank)?;
     let pools = pools.written(alloc, &bank)?;
     Ok(Listed { pools, laws })
 }
