@@ -45,22 +45,21 @@ fn pools_of(alloc: Global, sig: &Sig, bank: &mut ValueBank) -> Result<Pools, Exp
     }
 }
 
-/// The laws of a signature over its pools.
-fn laws_over(
-    alloc: Global,
-    tester: &Tester<'_>,
-    bank: &mut ValueBank,
-) -> Result<Seq<Equation>, ExploreErr>
-    requires { ArePools tester.now.sig.now bank.old tester.now.pools.now }
-    ensures laws { IfOk result (AreLaws tester.now.sig.now) }
-    ensures lacks { IfErr result (IsTold tester.now.sig.now (HasLackingTerm tester.now.sig.now (pools_by tester.now.sig.now))) }
-    ensures grows { Grows bank.old bank.new }
-{
-    let terms = universe(alloc, tester.sig)?;
-    let vectors = tester.vectors(bank, terms.as_slice())?;
-    bank.shared();
-    let firsts = first_same(alloc, vectors.as_slice())?;
-    Ok(equations(alloc, terms.as_slice(), firsts.as_slice())?)
+impl<'s> Tester<'s> {
+    /// The laws that hold at every test: for each term of the universe that isn't the least of its values, the equation
+    /// with the least.
+    fn laws(&self, bank: &mut ValueBank) -> Result<Seq<Equation>, ExploreErr>
+        requires { ArePools self.now.sig.now bank.old self.now.pools.now }
+        ensures laws { IfOk result (AreLaws self.now.sig.now) }
+        ensures lacks { IfErr result (IsTold self.now.sig.now (HasLackingTerm self.now.sig.now (pools_by self.now.sig.now))) }
+        ensures grows { Grows bank.old bank.new }
+    {
+        let terms = universe(self.alloc, self.sig)?;
+        let vectors = self.vectors(bank, terms.as_slice())?;
+        bank.shared();
+        let firsts = first_same(self.alloc, vectors.as_slice())?;
+        Ok(equations(self.alloc, terms.as_slice(), firsts.as_slice())?)
+    }
 }
 
 /// The law list of a signature, which covers its universe of at most so many terms. Each error but want of memory tells
@@ -83,7 +82,7 @@ pub fn law_list(alloc: Global, sig: &Sig, terms: u64) -> Result<Listed, ExploreE
         pools: &pools,
     };
     tester.check_background(&mut bank)?;
-    let laws = laws_over(alloc, &tester, &mut bank)?;
+    let laws = tester.laws(&mut bank)?;
     let pools = pools.written(alloc, &bank)?;
     Ok(Listed { pools, laws })
 }
