@@ -2,11 +2,10 @@
 use Rattle.std.proofs.Common.{◌≡◌, ℕ, ◌+◌, ◌<◌, ◌≤◌, ◌⊎◌, inl, inr, Bool, true, false, true≢false, nat_lt, ltb-true, lt-ltb, if◌then◌else◌, Option, Some, None, IsSome, List, length, slice_get, sym, refl, ap, ap₂, ◌∙◌, subst, arith}
 use Rattle.std.proofs.lemmas.Bool.{cases_lt}
 use Rattle.std.proofs.Math.Nat.{eq-or-lt_of_le}
-use Rattle.law_sig.specs.Lists.{In, Each}
+use Rattle.law_sig.specs.Lists.{Each}
 use Rattle.law_sig.specs.Trees.{node_count}
-use Rattle.law_sig.specs.Tests.{Pools, InU, assignments, test_count, val, Agrees, IsDefined, IsInBudget}
+use Rattle.law_sig.specs.Tests.{Pools, InU, assignments, test_count, IsDefined}
 use Rattle.law_sig.specs.Counts.{at_most, term_count}
-use Rattle.law_sig.specs.Order.{IsBefore}
 use Rattle.law_sig.specs.declared.tree.SortId.{SortId}
 use Rattle.law_sig.specs.declared.tree.Tree.{Tree}
 use Rattle.law_sig.specs.declared.parts.Equation.{Equation}
@@ -14,11 +13,11 @@ use Rattle.law_sig.specs.declared.parts.SigParts.{SigParts}
 use Rattle.law_laws.proofs.ListFacts.{of_each}
 use Rattle.law_laws.proofs.Orders.{before_decided}
 use Rattle.law_gen.specs.Draws.{pools_by}
-use Rattle.law_gen.specs.Sizes.{AreSmall, IsFirstIn, IsFirst}
+use Rattle.law_gen.specs.Sizes.{AreSmall, IsFirstIn}
 use Rattle.law_explore.specs.Refusals.{Refusal, OrElse, IsFirstAnswer, HasManyAssignments, HasManyTerms, HasLargeValue, HasSmallValues, Breaks, BreaksAt, HasBrokenBackground, LacksValue, HasLackingTerm, IsRefusal}
 use Rattle.law_explore.specs.Refusals.Refusal.{Assignments, TooManyTerms, ValueTooLarge, Over}
 use Rattle.law_explore.specs.Refusals.Breaks.{left_over, right_over, differs}
-use Rattle.law_explore.specs.LawList.{IsBackgroundTrue, IsWithin, OneRefusal, NoneWithin}
+use Rattle.law_explore.specs.LawList.{IsBackgroundTrue, OneRefusal, NoneWithin}
 use Rattle.law_explore.proofs.Rising.{at_place}
 use Rattle.law_explore.proofs.Breaking.{HoldsAll, agrees_not, each_got}
 

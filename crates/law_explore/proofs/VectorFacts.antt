@@ -1,9 +1,9 @@
 -- The vectors of terms, and those of applications from those of their arguments.
-use Rattle.std.proofs.Common.{◌≡◌, ℕ, zero, suc, ◌+◌, ◌<◌, ◌≤◌, ◌^◌, ◌⊎◌, inl, inr, Option, Some, None, IsSome, List, [], ◌∷◌, ◌++◌, length, map, take, slice_get, slice_index_or, option_map, Vec, sym, refl, ap, ap₂, ◌∙◌, subst, arith}
+use Rattle.std.proofs.Common.{◌≡◌, ℕ, zero, suc, ◌+◌, ◌<◌, ◌^◌, inl, inr, Some, None, IsSome, List, [], ◌∷◌, ◌++◌, length, map, take, slice_get, slice_index_or, option_map, Vec, sym, refl, ap, ap₂, ◌∙◌, subst, arith}
 use Rattle.std.specs.declared.alloc.Global.{Global}
 use Rattle.std.proofs.lemmas.Bool.{cases_lt}
 use Rattle.std.proofs.lemmas.List.{length_push, get_or_default}
-use Rattle.std.proofs.lemmas.Option.{slice_get-get_or, slice_get-map, get_or_from_slice_get}
+use Rattle.std.proofs.lemmas.Option.{slice_get-map, get_or_from_slice_get}
 use Rattle.law_sig.specs.Lists.{Each}
 use Rattle.law_sig.specs.WellFormed.{IsWellFormed}
 use Rattle.law_sig.specs.declared.tree.SymId.{SymId}
@@ -11,13 +11,13 @@ use Rattle.law_sig.specs.declared.tree.Tree.{Tree}
 use Rattle.law_sig.specs.declared.tree.Tree.TheVariants.{App}
 use Rattle.law_sig.specs.declared.parts.SigParts.{SigParts}
 use Rattle.law_value.specs.declared.bank.ValueId.{ValueId}
-use Rattle.law_value.specs.Values.{AreOf, tree_of, Grows}
+use Rattle.law_value.specs.Values.{AreOf, Grows}
 use Rattle.law_pool.proofs.Reading.{each_at, take_next}
 use Rattle.law_gen.specs.Draws.{pools_by}
 use Rattle.law_explore.specs.declared.refusal.ExploreErr.{ExploreErr}
-use Rattle.law_explore.specs.Refusals.{Refusal, LacksValue, IsTold, IsOver}
+use Rattle.law_explore.specs.Refusals.{LacksValue, IsTold, IsOver}
 use Rattle.law_explore.specs.Refusals.Refusal.{Over}
-use Rattle.law_explore.specs.Values.{IsTestable, IsValue, AreIds, IsVector, Both, Finds, IsPlaced, IsKnown, HasVector, HaveVectors, HasArgsAt, HasKnownArgs, IsRead, IsFound, items_of, id_in, id_at, ids_at, word, applied_value, tests_by, val_by}
+use Rattle.law_explore.specs.Values.{IsTestable, IsValue, AreIds, IsVector, Both, Finds, IsPlaced, IsKnown, HasVector, HaveVectors, HasArgsAt, HasKnownArgs, IsRead, IsFound, items_of, id_in, id_at, ids_at, applied_value, tests_by, val_by}
 use Rattle.law_explore.proofs.BothFacts.{both_map, both_long}
 use Rattle.law_explore.proofs.Testing.{value_stays, values_held, application_value, few_args}
 use Rattle.law_explore.proofs.Breaking.{told_on}

@@ -1,6 +1,6 @@
 -- No two terms have the same word.
-use Rattle.std.proofs.Common.{◌≡◌, ℕ, suc, List, [], ◌∷◌, ◌++◌, length, map, refl, sym, ap, ap₂, ◌∙◌, append_assoc}
-use Rattle.std.proofs.lemmas.List.{length-map, append-nil}
+use Rattle.std.proofs.Common.{◌≡◌, ℕ, List, [], ◌∷◌, ◌++◌, length, map, refl, sym, ap, ap₂, ◌∙◌, append_assoc}
+use Rattle.std.proofs.lemmas.List.{length-map}
 use Rattle.law_sig.specs.Lists.{Each}
 use Rattle.law_sig.specs.Trees.{joined}
 use Rattle.law_sig.specs.declared.tree.SortId.{SortId}

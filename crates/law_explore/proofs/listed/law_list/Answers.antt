@@ -1,4 +1,4 @@
-use Rattle.std.proofs.Common.{◌≡◌, ◌≤◌, ap, sym, ◌∙◌}
+use Rattle.std.proofs.Common.{◌∙◌}
 use Rattle.law_sig.specs.Tests.{assignments}
 use Rattle.law_sig.specs.Counts.{term_count}
 use Rattle.law_gen.specs.Draws.{pools_by}

@@ -1,4 +1,4 @@
-use Rattle.std.proofs.Common.{◌≡◌, length, sym, ap, ◌∙◌, rules}
+use Rattle.std.proofs.Common.{sym, ap, ◌∙◌, rules}
 use Rattle.law_sig.specs.declared.tree.Tree.TheVariants.{App}
 use Rattle.law_sig.specs.declared.tree.Tree.TheViews.{the_lemmas}
 use Rattle.law_sig.specs.declared.parts.Settings.{Settings}

@@ -1,4 +1,3 @@
-use Rattle.std.proofs.Common.{IfErr, ap, ◌∙◌}
 use Rattle.law_gen.specs.Draws.{pools_by}
 use Rattle.law_explore.specs.Refusals.{Breaks}
 use Rattle.law_explore.specs.Values.{IsLacking}

@@ -1,4 +1,4 @@
-use Rattle.std.proofs.Common.{◌≡◌, ◌<◌, ◌≤◌, subst}
+use Rattle.std.proofs.Common.{◌<◌, ◌≤◌, subst}
 use Rattle.law_gen.specs.Draws.{pools_by}
 use Rattle.law_explore.specs.Refusals.{Breaks, IsFirstAnswer}
 use Rattle.law_explore.specs.Values.{tests_by}

@@ -1,4 +1,4 @@
-use Rattle.std.proofs.Common.{◌≡◌, Some, map, sym, ap, ◌∙◌, option_map, subst}
+use Rattle.std.proofs.Common.{Some, map, sym, ap, ◌∙◌, option_map, subst}
 use Rattle.std.proofs.lemmas.Option.{slice_get-get_or, slice_get-map}
 use Rattle.indexmap.specs.IndexMap.{get}
 use Rattle.law_gen.specs.Draws.{pools_by}
