@@ -1,20 +1,20 @@
 -- What an error tells, and background equations that hold or break.
-use Rattle.std.proofs.Common.{◌≡◌, ◌≢◌, ℕ, zero, suc, ◌+◌, ◌<◌, ◌≤◌, ◌⊎◌, inl, inr, Option, Some, None, IsSome, Result, Ok, Err, IfErr, IfOk, List, [], ◌∷◌, length, take, slice_get, slice_index_or, sym, refl, ap, ◌∙◌, subst, arith}
+use Rattle.std.proofs.Common.{◌≡◌, ◌≢◌, ℕ, zero, suc, ◌+◌, ◌<◌, ◌≤◌, inl, inr, Option, Some, None, IsSome, Result, Ok, Err, IfErr, IfOk, List, [], ◌∷◌, length, take, slice_get, slice_index_or, sym, refl, ap, ◌∙◌, subst, arith}
 use Rattle.std.specs.Result.{IsErrAnd}
 use Rattle.std.proofs.lemmas.Bool.{cases_lt}
-use Rattle.std.proofs.lemmas.Option.{slice_get-get_or, slice_get_within}
+use Rattle.std.proofs.lemmas.Option.{slice_get-get_or}
 use Rattle.law_sig.specs.Lists.{Each}
-use Rattle.law_sig.specs.Tests.{Pools, test_count, Agrees}
+use Rattle.law_sig.specs.Tests.{test_count, Agrees}
 use Rattle.law_sig.specs.declared.tree.Tree.{Tree}
 use Rattle.law_sig.specs.declared.parts.Equation.{Equation}
 use Rattle.law_sig.specs.declared.parts.SigParts.{SigParts}
 use Rattle.law_value.specs.declared.bank.ValueId.{ValueId}
-use Rattle.law_value.specs.Values.{IsOf, IsShared, tree_of, Grows}
+use Rattle.law_value.specs.Values.{IsShared, tree_of, Grows}
 use Rattle.law_pool.specs.Table.{PoolTable, IsFor, pools_of}
 use Rattle.law_gen.specs.Draws.{pools_by}
 use Rattle.law_explore.specs.declared.refusal.ExploreErr.{ExploreErr}
 use Rattle.law_explore.specs.declared.refusal.ExploreErr.TheVariants as err
-use Rattle.law_explore.specs.Refusals.{Refusal, IsFirstAnswer, Breaks, BreaksAt, HasBrokenBackground, IsTold}
+use Rattle.law_explore.specs.Refusals.{Refusal, IsFirstAnswer, Breaks, HasBrokenBackground, IsTold}
 use Rattle.law_explore.specs.Refusals.Breaks.{left_over, right_over, differs}
 use Rattle.law_explore.specs.Values.{ArePools, IsValue, IsLacking, HoldsAt, tests_by, val_by}
 use Rattle.law_explore.proofs.Testing.{value_stays}

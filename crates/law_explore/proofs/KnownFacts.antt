@@ -1,22 +1,21 @@
 -- The terms of the universe that stand before one of them, and their vectors.
-use Rattle.std.proofs.Common.{◌≡◌, ℕ, zero, suc, ◌+◌, ◌<◌, ◌≤◌, ◌⊎◌, inl, inr, Option, Some, None, IsSome, MatchOption, List, [], ◌∷◌, ◌++◌, length, map, take, slice_get, slice_index_or, option_map, Vec, sym, refl, ap, ◌∙◌, subst, arith}
+use Rattle.std.proofs.Common.{◌≡◌, ℕ, zero, suc, ◌+◌, ◌<◌, ◌≤◌, inl, inr, Option, Some, None, IsSome, MatchOption, List, [], ◌∷◌, ◌++◌, length, map, take, slice_get, slice_index_or, option_map, Vec, sym, refl, ap, ◌∙◌, subst, arith}
 use Rattle.std.specs.declared.alloc.Global.{Global}
 use Rattle.std.proofs.lemmas.Bool.{cases_lt}
 use Rattle.std.proofs.Math.Nat.{eq-or-lt_of_le}
-use Rattle.std.proofs.lemmas.Option.{slice_get-get_or, slice_get-map}
-use Rattle.law_sig.specs.Lists.{In, Each}
+use Rattle.std.proofs.lemmas.Option.{slice_get-map}
+use Rattle.law_sig.specs.Lists.{In}
 use Rattle.law_sig.specs.Lists.In.{here, there}
 use Rattle.law_sig.specs.Signature.{args_of}
 use Rattle.law_sig.specs.Tests.{InU}
 use Rattle.law_sig.specs.Order.{IsBefore}
 use Rattle.law_sig.specs.WellFormed.{IsWellFormed}
 use Rattle.law_sig.specs.declared.tree.SortId.{SortId}
-use Rattle.law_sig.specs.declared.tree.SymId.{SymId}
 use Rattle.law_sig.specs.declared.tree.Tree.{Tree}
 use Rattle.law_sig.specs.declared.tree.Tree.TheVariants.{App}
 use Rattle.law_sig.specs.declared.parts.SigParts.{SigParts}
 use Rattle.law_laws.proofs.Descents.{weighs_something}
-use Rattle.law_laws.proofs.ListFacts.{each_of, of_each}
+use Rattle.law_laws.proofs.ListFacts.{each_of}
 use Rattle.law_laws.proofs.Orders.{lighter_before, never_before_itself, before_chain}
 use Rattle.law_laws.proofs.Renaming.{bounded_vars}
 use Rattle.law_laws.proofs.Universe.{AreInU, in_app, arg_weight}
@@ -63,8 +62,8 @@ module _ (parts : SigParts) (terms : List Tree) (universe : IsUniverse parts ter
         | inl less ↦ (k, less, s_is)
         | inr more ↦ elim (eq-or-lt_of_le more) [
           | inl same ↦
-            let is : s ≡ t = some_is (sym s_is ∙ ap (slice_get terms) (sym same) ∙ t_is) in
-            absurd (never_before_itself parts t (subst (λ x. IsBefore parts x t) is before))
+              let is : s ≡ t = some_is (sym s_is ∙ ap (slice_get terms) (sym same) ∙ t_is) in
+              absurd (never_before_itself parts t (subst (λ x. IsBefore parts x t) is before))
           | inr less ↦ absurd (never_before_itself parts s (before_chain parts s t s before (rising_places (IsBefore parts) terms at k t s universe.ordered less t_is s_is)))
         ]
       ]

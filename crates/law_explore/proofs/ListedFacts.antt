@@ -1,9 +1,8 @@
 -- The equations of the universe with the first places of its vectors are the law list.
-use Rattle.std.proofs.Common.{◌≡◌, ◌≢◌, ℕ, ◌<◌, ◌≤◌, IsSome, List, length, map, slice_index_or, Vec, sym, refl, ap, ap₂, ◌∙◌, subst, arith}
+use Rattle.std.proofs.Common.{◌≡◌, ℕ, ◌<◌, ◌≤◌, IsSome, List, length, map, slice_index_or, Vec, sym, refl, ap, ap₂, ◌∙◌, subst, arith}
 use Rattle.std.specs.declared.alloc.Global.{Global}
 use Rattle.std.proofs.Math.Path.{subst₂}
 use Rattle.std.proofs.lemmas.Option.{slice_get-get_or, slice_get_within}
-use Rattle.law_sig.specs.Lists.{Each}
 use Rattle.law_sig.specs.Tests.{Pools, assignments, Agrees, IsDefined}
 use Rattle.law_sig.specs.Counts.{term_count}
 use Rattle.law_sig.specs.declared.tree.Tree.{Tree}

@@ -1,10 +1,9 @@
 -- The pools that a signature gives have no large value.
-use Rattle.std.proofs.Common.{◌≡◌, ℕ, suc, ◌≤◌, List, [], ◌∷◌, sym, ap, ◌∙◌, subst}
+use Rattle.std.proofs.Common.{◌≡◌, ℕ, suc, ◌≤◌, List, [], ◌∷◌, sym, subst}
 use Rattle.law_sig.specs.Lists.{Each}
 use Rattle.law_sig.specs.Trees.{node_count, depth}
 use Rattle.law_sig.specs.WellFormed.{IsWritable, IsValueOf, IsPool, IsPoolFrom, IsPoolRule, IsWellFormed}
 use Rattle.law_sig.specs.declared.tree.Tree.{Tree}
-use Rattle.law_sig.specs.declared.parts.PoolRule.{PoolRule}
 use Rattle.law_sig.specs.declared.parts.PoolRule.TheVariants as rule
 use Rattle.law_sig.specs.declared.parts.SigParts.{SigParts}
 use Rattle.law_laws.proofs.ListFacts.{each_map}

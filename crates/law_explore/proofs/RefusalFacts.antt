@@ -2,11 +2,10 @@
 use Rattle.std.proofs.Common.{◌≡◌, ℕ, ◌+◌, ◌<◌, ◌≤◌, ◌⊎◌, inl, inr, Bool, true, false, true≢false, nat_lt, ltb-true, lt-ltb, if◌then◌else◌, Option, Some, None, IsSome, List, length, slice_get, sym, refl, ap, ap₂, ◌∙◌, subst, arith}
 use Rattle.std.proofs.lemmas.Bool.{cases_lt}
 use Rattle.std.proofs.Math.Nat.{eq-or-lt_of_le}
-use Rattle.law_sig.specs.Lists.{In, Each}
+use Rattle.law_sig.specs.Lists.{Each}
 use Rattle.law_sig.specs.Trees.{node_count}
-use Rattle.law_sig.specs.Tests.{Pools, InU, assignments, test_count, val, Agrees, IsDefined, IsInBudget}
+use Rattle.law_sig.specs.Tests.{Pools, InU, assignments, test_count, IsDefined}
 use Rattle.law_sig.specs.Counts.{at_most, term_count}
-use Rattle.law_sig.specs.Order.{IsBefore}
 use Rattle.law_sig.specs.declared.tree.SortId.{SortId}
 use Rattle.law_sig.specs.declared.tree.Tree.{Tree}
 use Rattle.law_sig.specs.declared.parts.Equation.{Equation}
@@ -14,11 +13,11 @@ use Rattle.law_sig.specs.declared.parts.SigParts.{SigParts}
 use Rattle.law_laws.proofs.ListFacts.{of_each}
 use Rattle.law_laws.proofs.Orders.{before_decided}
 use Rattle.law_gen.specs.Draws.{pools_by}
-use Rattle.law_gen.specs.Sizes.{AreSmall, IsFirstIn, IsFirst}
+use Rattle.law_gen.specs.Sizes.{AreSmall, IsFirstIn}
 use Rattle.law_explore.specs.Refusals.{Refusal, OrElse, IsFirstAnswer, HasManyAssignments, HasManyTerms, HasLargeValue, HasSmallValues, Breaks, BreaksAt, HasBrokenBackground, LacksValue, HasLackingTerm, IsRefusal}
 use Rattle.law_explore.specs.Refusals.Refusal.{Assignments, TooManyTerms, ValueTooLarge, Over}
 use Rattle.law_explore.specs.Refusals.Breaks.{left_over, right_over, differs}
-use Rattle.law_explore.specs.LawList.{IsBackgroundTrue, IsWithin, OneRefusal, NoneWithin}
+use Rattle.law_explore.specs.LawList.{IsBackgroundTrue, OneRefusal, NoneWithin}
 use Rattle.law_explore.proofs.Rising.{at_place}
 use Rattle.law_explore.proofs.Breaking.{HoldsAll, agrees_not, each_got}
 
@@ -149,8 +148,8 @@ one_at parts pools at r q h k =
 one_lack : (parts : SigParts) (pools : Pools) (t : Tree) → IsOne (LacksValue parts pools t)
 one_lack parts pools t r q h k =
     let same = same_place h.test k.test
-      (λ less. true≢false (sym (subst IsSome h.lacks (k.before h.test less))))
-      (λ more. true≢false (sym (subst IsSome k.lacks (h.before k.test more)))) in
+    (λ less. true≢false (sym (subst IsSome h.lacks (k.before h.test less))))
+    (λ more. true≢false (sym (subst IsSome k.lacks (h.before k.test more)))) in
     h.is ∙ ap (Over t) same ∙ sym k.is
 
 one_term : (parts : SigParts) (pools : Pools) → IsOne (HasLackingTerm parts pools)
@@ -185,8 +184,8 @@ one_large parts r q h k =
     let other = k.3 in
     let pools = pools_by parts in
     let pool : h.0 ≡ k.0 = same_place h.0 k.0
-      (λ less. large_in first.sorts h.1 first.first (each_got (Each AreSmall) pools k.0 h.0 first.sorts other.before less first.there))
-      (λ more. large_in other.sorts k.1 other.first (each_got (Each AreSmall) pools h.0 k.0 other.sorts first.before more other.there)) in
+    (λ less. large_in first.sorts h.1 first.first (each_got (Each AreSmall) pools k.0 h.0 first.sorts other.before less first.there))
+    (λ more. large_in other.sorts k.1 other.first (each_got (Each AreSmall) pools h.0 k.0 other.sorts first.before more other.there)) in
     let sorts : first.sorts ≡ other.sorts = some_is (sym first.there ∙ ap (slice_get pools) pool ∙ other.there) in
     let own : IsFirstIn other.sorts h.1 = subst (λ l. IsFirstIn l h.1) sorts first.first in
     let sort : h.1 ≡ k.1 = same_sort h.1 k.1 (same_place h.1.0 k.1.0 (large_before other.sorts h.1 k.1 own other.first) (large_before other.sorts k.1 h.1 other.first own)) in

@@ -3,7 +3,7 @@ use Rattle.std.proofs.Common.{◌≡◌, ℕ, zero, suc, ◌+◌, ◌*◌, ◌^�
 use Rattle.std.proofs.lemmas.List.{length-map}
 use Rattle.std.proofs.lemmas.Option.{slice_get-get_or}
 use Rattle.law_sig.specs.Lists.{Each, product}
-use Rattle.law_sig.specs.Signature.{args_of, vars_at, sort_of}
+use Rattle.law_sig.specs.Signature.{args_of, vars_at}
 use Rattle.law_sig.specs.Evaluate.{Made, ap as applied}
 use Rattle.law_sig.specs.Tests.{assignments, value_at, all_present}
 use Rattle.law_sig.specs.WellFormed.{IsWellFormed}
@@ -18,7 +18,7 @@ use Rattle.law_laws.proofs.Sorts.{HaveSorts, sorted_app}
 use Rattle.law_laws.proofs.TreeFacts.{val-Var, val-App}
 use Rattle.law_value.specs.declared.bank.ValueId.{ValueId}
 use Rattle.law_value.specs.Values.{IsOf, AreOf, tree_of, trees_of, Grows}
-use Rattle.law_pool.specs.Table.{PoolTable, AreHeld, pools_of, radices_by, tests_of, vars_of}
+use Rattle.law_pool.specs.Table.{PoolTable, pools_of, radices_by, tests_of, vars_of}
 use Rattle.law_value.proofs.BankFacts.{take_all}
 use Rattle.law_pool.proofs.Reading.{list_keeps, sorts_keep, id_keeps, each_at, take_next}
 use Rattle.law_gen.specs.Draws.{pools_by}

@@ -1,9 +1,9 @@
 -- The vectors of terms, and those of applications from those of their arguments.
-use Rattle.std.proofs.Common.{◌≡◌, ℕ, zero, suc, ◌+◌, ◌<◌, ◌≤◌, ◌^◌, ◌⊎◌, inl, inr, Option, Some, None, IsSome, List, [], ◌∷◌, ◌++◌, length, map, take, slice_get, slice_index_or, option_map, Vec, sym, refl, ap, ap₂, ◌∙◌, subst, arith}
+use Rattle.std.proofs.Common.{◌≡◌, ℕ, zero, suc, ◌+◌, ◌<◌, ◌^◌, inl, inr, Some, None, IsSome, List, [], ◌∷◌, ◌++◌, length, map, take, slice_get, slice_index_or, option_map, Vec, sym, refl, ap, ap₂, ◌∙◌, subst, arith}
 use Rattle.std.specs.declared.alloc.Global.{Global}
 use Rattle.std.proofs.lemmas.Bool.{cases_lt}
 use Rattle.std.proofs.lemmas.List.{length_push, get_or_default}
-use Rattle.std.proofs.lemmas.Option.{slice_get-get_or, slice_get-map, get_or_from_slice_get}
+use Rattle.std.proofs.lemmas.Option.{slice_get-map, get_or_from_slice_get}
 use Rattle.law_sig.specs.Lists.{Each}
 use Rattle.law_sig.specs.WellFormed.{IsWellFormed}
 use Rattle.law_sig.specs.declared.tree.SymId.{SymId}
@@ -11,13 +11,13 @@ use Rattle.law_sig.specs.declared.tree.Tree.{Tree}
 use Rattle.law_sig.specs.declared.tree.Tree.TheVariants.{App}
 use Rattle.law_sig.specs.declared.parts.SigParts.{SigParts}
 use Rattle.law_value.specs.declared.bank.ValueId.{ValueId}
-use Rattle.law_value.specs.Values.{AreOf, tree_of, Grows}
+use Rattle.law_value.specs.Values.{AreOf, Grows}
 use Rattle.law_pool.proofs.Reading.{each_at, take_next}
 use Rattle.law_gen.specs.Draws.{pools_by}
 use Rattle.law_explore.specs.declared.refusal.ExploreErr.{ExploreErr}
-use Rattle.law_explore.specs.Refusals.{Refusal, LacksValue, IsTold, IsOver}
+use Rattle.law_explore.specs.Refusals.{LacksValue, IsTold, IsOver}
 use Rattle.law_explore.specs.Refusals.Refusal.{Over}
-use Rattle.law_explore.specs.Values.{IsTestable, IsValue, AreIds, IsVector, Both, Finds, IsPlaced, IsKnown, HasVector, HaveVectors, HasArgsAt, HasKnownArgs, IsRead, IsFound, items_of, id_in, id_at, ids_at, word, applied_value, tests_by, val_by}
+use Rattle.law_explore.specs.Values.{IsTestable, IsValue, AreIds, IsVector, Both, Finds, IsPlaced, IsKnown, HasVector, HaveVectors, HasArgsAt, HasKnownArgs, IsRead, IsFound, items_of, id_in, id_at, ids_at, applied_value, tests_by, val_by}
 use Rattle.law_explore.proofs.BothFacts.{both_map, both_long}
 use Rattle.law_explore.proofs.Testing.{value_stays, values_held, application_value, few_args}
 use Rattle.law_explore.proofs.Breaking.{told_on}
@@ -32,9 +32,6 @@ place_before (y ∷ xs) x (suc k) less = place_before xs x k (omega arith)
 place_last : (xs : List ℕ) (x : ℕ) → slice_index_or (xs ++ x ∷ []) (length xs) 0 ≡ x
 place_last [] x = refl
 place_last (y ∷ xs) x = place_last xs x
-
-
-
 
 pub ids_none : (parts : SigParts) (bank : List Tree) (t : Tree) (ids : List ℕ) → ids ≡ [] → AreIds parts bank t 0 ids
 ids_none parts bank t ids e = record { one_each = ap length e; values = λ k less. absurd (omega arith) }
@@ -51,13 +48,13 @@ ids_next parts old new t test ids more v are grows is e = subst (AreIds parts ne
   one_each = length_push ids v.0 ∙ ap (λ n. n + 1) are.one_each;
   values = λ k less. elim (cases_lt k test) [
     | inl l ↦
-      let long = are.one_each in
-      let same : slice_index_or (ids ++ v.0 ∷ []) k 0 ≡ slice_index_or ids k 0 = place_before ids v.0 k (omega arith) in
-      subst (IsValue parts new k t) (ap id_is (sym same)) (value_stays parts old new k t (id_in ids k) grows (are.values k l))
+        let long = are.one_each in
+        let same : slice_index_or (ids ++ v.0 ∷ []) k 0 ≡ slice_index_or ids k 0 = place_before ids v.0 k (omega arith) in
+        subst (IsValue parts new k t) (ap id_is (sym same)) (value_stays parts old new k t (id_in ids k) grows (are.values k l))
     | inr l ↦
-      let is_test : test ≡ k = omega arith in
-      let same : slice_index_or (ids ++ v.0 ∷ []) k 0 ≡ v.0 = ap (λ n. slice_index_or (ids ++ v.0 ∷ []) n 0) (sym is_test ∙ sym are.one_each) ∙ place_last ids v.0 in
-      subst (λ n. IsValue parts new n t (id_in (ids ++ v.0 ∷ []) k)) is_test (subst (IsValue parts new test t) (ap id_is (sym same)) is)
+        let is_test : test ≡ k = omega arith in
+        let same : slice_index_or (ids ++ v.0 ∷ []) k 0 ≡ v.0 = ap (λ n. slice_index_or (ids ++ v.0 ∷ []) n 0) (sym is_test ∙ sym are.one_each) ∙ place_last ids v.0 in
+        subst (λ n. IsValue parts new n t (id_in (ids ++ v.0 ∷ []) k)) is_test (subst (IsValue parts new test t) (ap id_is (sym same)) is)
   ];
 })
   where
@@ -112,7 +109,7 @@ pub arg_values : (parts : SigParts) (old bank : List Tree) (vectors : List (Vec 
 arg_values parts old bank vectors test tests term f places h grows less count =
     let within : test < tests_by parts = subst (λ n. test < n) count less in
     let have : HaveVectors parts bank vectors h.args places = both_map (HasVector parts old vectors) (HasVector parts bank vectors)
-      (λ t p k. record { vector = k.vector; there = k.there; is = vector_stays parts old bank t k.vector.items grows k.is }) h.args places h.have in
+    (λ t p k. record { vector = k.vector; there = k.there; is = vector_stays parts old bank t k.vector.items grows k.is }) h.args places h.have in
     let values = args_values parts bank vectors test within h.args places have in
     record {
       read = args_read parts bank vectors test within h.args places have;

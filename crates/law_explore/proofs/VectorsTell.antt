@@ -1,10 +1,9 @@
 -- The vectors of terms tell them apart as the tests do.
-use Rattle.std.proofs.Common.{◌≡◌, ◌≢◌, ℕ, zero, suc, ◌+◌, ◌<◌, ◌≤◌, ◌⊎◌, inl, inr, Some, IsSome, List, [], ◌∷◌, length, map, slice_index_or, Vec, sym, refl, ap, ap₂, ◌∙◌, subst, arith}
+use Rattle.std.proofs.Common.{◌≡◌, ◌≢◌, ℕ, suc, ◌<◌, ◌⊎◌, inl, inr, Some, IsSome, List, [], ◌∷◌, length, map, slice_index_or, Vec, sym, refl, ap, ap₂, ◌∙◌, subst, arith}
 use Rattle.std.specs.declared.alloc.Global.{Global}
 use Rattle.std.proofs.lemmas.Bool.{cases_lt}
-use Rattle.law_sig.specs.Lists.{In, Each, Rising}
+use Rattle.law_sig.specs.Lists.{In, Rising}
 use Rattle.law_sig.specs.Lists.In.{here, there}
-use Rattle.law_sig.specs.Signature.{sort_of}
 use Rattle.law_sig.specs.Tests.{InU, IsDefined}
 use Rattle.law_sig.specs.Order.{IsBefore}
 use Rattle.law_sig.specs.declared.tree.SortId.{SortId}
@@ -108,14 +107,14 @@ module _ (parts : SigParts) (bank : List Tree) (shared : IsShared bank) (terms :
         ),
         λ h. same_lists (own_vector s) (own_vector t) (v.long ∙ sym w.long) (λ k less. elim (cases_lt k (tests_by parts)) [
           | inl within ↦
-            let a = v.values k within in
-            let b = w.values k within in
-            let trees : tree_of bank (id_in (own_vector s) k) ≡ tree_of bank (id_in (own_vector t) k) = some_is (sym a.is ∙ h.1 k within ∙ b.is) in
-            ap (λ (i : ValueId). i.0) (shared (id_in (own_vector s) k) (id_in (own_vector t) k) a.held b.held trees)
+              let a = v.values k within in
+              let b = w.values k within in
+              let trees : tree_of bank (id_in (own_vector s) k) ≡ tree_of bank (id_in (own_vector t) k) = some_is (sym a.is ∙ h.1 k within ∙ b.is) in
+              ap (λ (i : ValueId). i.0) (shared (id_in (own_vector s) k) (id_in (own_vector t) k) a.held b.held trees)
           | inr more ↦
-            let long = v.long in
-            let end : tests_by parts ≡ k = omega arith in
-            let sorts : v.sort ≡ w.sort = some_is (sym v.sorted ∙ h.0 ∙ w.sorted) in
-            subst (λ n. slice_index_or (own_vector s) n 0 ≡ slice_index_or (own_vector t) n 0) end (v.last ∙ ap (λ (i : SortId). i.0) sorts ∙ sym w.last)
+              let long = v.long in
+              let end : tests_by parts ≡ k = omega arith in
+              let sorts : v.sort ≡ w.sort = some_is (sym v.sorted ∙ h.0 ∙ w.sorted) in
+              subst (λ n. slice_index_or (own_vector s) n 0 ≡ slice_index_or (own_vector t) n 0) end (v.last ∙ ap (λ (i : SortId). i.0) sorts ∙ sym w.last)
         ]),
       )

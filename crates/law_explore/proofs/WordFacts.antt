@@ -1,6 +1,6 @@
 -- No two terms have the same word.
-use Rattle.std.proofs.Common.{◌≡◌, ℕ, suc, List, [], ◌∷◌, ◌++◌, length, map, refl, sym, ap, ap₂, ◌∙◌, append_assoc}
-use Rattle.std.proofs.lemmas.List.{length-map, append-nil}
+use Rattle.std.proofs.Common.{◌≡◌, ℕ, List, [], ◌∷◌, ◌++◌, length, map, refl, sym, ap, ap₂, ◌∙◌, append_assoc}
+use Rattle.std.proofs.lemmas.List.{length-map}
 use Rattle.law_sig.specs.Lists.{Each}
 use Rattle.law_sig.specs.Trees.{joined}
 use Rattle.law_sig.specs.declared.tree.SortId.{SortId}
@@ -26,7 +26,7 @@ all_end [] (u ∷ us) ends long r s e = cc
 all_end (t ∷ ts) [] ends long r s e = cc
 all_end (t ∷ ts) (u ∷ us) ends long r s e =
     let (first, rest) = ends.0 u (joined (map word ts) ++ r) (joined (map word us) ++ s)
-      (sym (append_assoc (word t) (joined (map word ts)) r) ∙ e ∙ append_assoc (word u) (joined (map word us)) s) in
+    (sym (append_assoc (word t) (joined (map word ts)) r) ∙ e ∙ append_assoc (word u) (joined (map word us)) s) in
     let (others, after) = all_end ts us ends.1 (let k : length ts ≡ length us = cc in k) r s rest in
     (ap₂ ◌∷◌ first others, after)
 

@@ -5,7 +5,6 @@ mod background;
 mod constants;
 mod explore;
 mod firsts;
-
 mod laws;
 mod list;
 mod listed;
@@ -19,10 +18,10 @@ mod words;
 
 pub use explore::universe;
 pub use firsts::first_same;
-pub use small::plain;
 pub use laws::equations;
-pub use listed::{law_list, refusal_laws, Listed};
+pub use listed::{Listed, law_list, refusal_laws};
 pub use refusal::ExploreErr;
+pub use small::plain;
 
 #[cfg(test)]
 mod tests;

@@ -6,14 +6,13 @@ ghost use Rattle.law_explore.specs.LawList.{AreLaws, IsLawListOf, OneRefusal, No
 ghost use Rattle.law_explore.specs.Refusals.{IsRefusal, HasLargeValue, HasSmallValues, HasLackingTerm, IsTold};
 ghost use Rattle.law_explore.specs.Values.{ArePools};
 
-use super::background::check_background;
 use super::explore::universe;
 use super::firsts::first_same;
 use super::laws::equations;
 use super::refusal::ExploreErr;
-use super::vectors::vectors;
-use law_gen::{make_pools, GenErr};
-use law_pool::{given_pools, Pools};
+use super::values::Tester;
+use law_gen::{GenErr, make_pools};
+use law_pool::{Pools, given_pools};
 use law_sig::{Equation, PoolRule, Seq, Sig, Tree};
 use law_value::ValueBank;
 use std::alloc::Global;
@@ -37,29 +36,30 @@ fn pools_of(alloc: Global, sig: &Sig, bank: &mut ValueBank) -> Result<Pools, Exp
         PoolRule::Given(_) => Ok(given_pools(alloc, sig, bank)?),
         PoolRule::Seeded { .. } => match make_pools(alloc, sig, bank) {
             Ok(pools) => Ok(pools),
-            Err(GenErr::ValueTooLarge { pool, sort }) => Err(ExploreErr::ValueTooLarge { pool, sort }),
+            Err(GenErr::ValueTooLarge { pool, sort }) => Err(ExploreErr::ValueTooLarge {
+                pool,
+                sort,
+            }),
             Err(GenErr::NoMemory) => Err(ExploreErr::NoMemory),
         },
     }
 }
 
-/// The laws of a signature over its pools.
-fn laws_over(
-    alloc: Global,
-    sig: &Sig,
-    bank: &mut ValueBank,
-    pools: &Pools,
-) -> Result<Seq<Equation>, ExploreErr>
-    requires { ArePools sig.now bank.old pools.now }
-    ensures laws { IfOk result (AreLaws sig.now) }
-    ensures lacks { IfErr result (IsTold sig.now (HasLackingTerm sig.now (pools_by sig.now))) }
-    ensures grows { Grows bank.old bank.new }
-{
-    let terms = universe(alloc, sig)?;
-    let vectors = vectors(alloc, sig, bank, pools, terms.as_slice())?;
-    bank.shared();
-    let firsts = first_same(alloc, vectors.as_slice())?;
-    Ok(equations(alloc, terms.as_slice(), firsts.as_slice())?)
+impl<'s> Tester<'s> {
+    /// The laws that hold at every test: for each term of the universe that isn't the least of its values, the equation
+    /// with the least.
+    fn laws(&self, bank: &mut ValueBank) -> Result<Seq<Equation>, ExploreErr>
+        requires { ArePools self.now.sig.now bank.old self.now.pools.now }
+        ensures laws { IfOk result (AreLaws self.now.sig.now) }
+        ensures lacks { IfErr result (IsTold self.now.sig.now (HasLackingTerm self.now.sig.now (pools_by self.now.sig.now))) }
+        ensures grows { Grows bank.old bank.new }
+    {
+        let terms = universe(self.alloc, self.sig)?;
+        let vectors = self.vectors(bank, terms.as_slice())?;
+        bank.shared();
+        let firsts = first_same(self.alloc, vectors.as_slice())?;
+        Ok(equations(self.alloc, terms.as_slice(), firsts.as_slice())?)
+    }
 }
 
 /// The law list of a signature, which covers its universe of at most so many terms. Each error but want of memory tells
@@ -76,8 +76,13 @@ pub fn law_list(alloc: Global, sig: &Sig, terms: u64) -> Result<Listed, ExploreE
     };
     let mut bank = ValueBank::new(alloc);
     let pools = pools_of(alloc, sig, &mut bank)?;
-    check_background(alloc, sig, &mut bank, &pools)?;
-    let laws = laws_over(alloc, sig, &mut bank, &pools)?;
+    let tester = Tester {
+        alloc,
+        sig,
+        pools: &pools,
+    };
+    tester.check_background(&mut bank)?;
+    let laws = tester.laws(&mut bank)?;
     let pools = pools.written(alloc, &bank)?;
     Ok(Listed { pools, laws })
 }

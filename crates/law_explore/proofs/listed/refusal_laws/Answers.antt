@@ -1,5 +1,4 @@
 use Rattle.law_explore.proofs.RefusalFacts.{one_refusal, none_within}
-use Rattle.law_explore.proofs.VectorsTell.{vectors_tell}
 use Rattle.law_explore.proofs.listed.refusal_laws.Goals as goal
 
 pub returns : goal.returns

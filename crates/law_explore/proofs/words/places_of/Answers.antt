@@ -1,4 +1,4 @@
-use Rattle.std.proofs.Common.{Some, sym, ap, refl}
+use Rattle.std.proofs.Common.{ap}
 use Rattle.std.specs.Option.{option_copied}
 use Rattle.indexmap.specs.IndexMap.{get}
 use Rattle.law_explore.specs.Firsts.{same_items}
