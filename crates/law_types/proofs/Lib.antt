@@ -1,0 +1,10 @@
+mod NameTable
+mod NumberFacts
+mod TreeOfFacts
+mod HeightFacts
+mod StableFacts
+mod RowFacts
+mod TailFacts
+mod LineSteps
+pub mod SideFacts
+pub mod TermFacts
