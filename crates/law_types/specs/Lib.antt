@@ -8,3 +8,4 @@ pub mod TermFaults
 pub mod LineFaults
 pub mod Naming
 pub mod Typed
+pub mod Stated

@@ -27,7 +27,7 @@ fn makes(symbol: &Sym, sort: SortId) -> bool
 }
 
 /// The constructors of a sort, in order of number.
-fn constructors(alloc: Global, symbols: &[Sym], sort: SortId) -> Result<Seq<SymId>, NoMemory>
+pub(crate) fn constructors(alloc: Global, symbols: &[Sym], sort: SortId) -> Result<Seq<SymId>, NoMemory>
     ensures { IfOk result (λ found. found ≡ constructors_from 0 symbols.now sort) }
 {
     let mut found = Seq::new(alloc);
@@ -56,7 +56,7 @@ pub(crate) fn rows(alloc: Global, text: &Whole) -> Result<Seq<Seq<SymId>>, NoMem
 }
 
 /// The names of the cases that come first.
-fn case_names(alloc: Global, lines: &[RawLine]) -> Result<Names, NoMemory>
+pub(crate) fn case_names(alloc: Global, lines: &[RawLine]) -> Result<Names, NoMemory>
     ensures { IfOk result (λ names. names ≡ case_names lines.now) }
 {
     let mut names = Names::new(alloc);

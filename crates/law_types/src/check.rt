@@ -95,7 +95,7 @@ fn line_fault(
 }
 
 /// The lines behind this one.
-fn lines_behind(lines: &[RawLine], at: usize) -> &[RawLine]
+pub(crate) fn lines_behind(lines: &[RawLine], at: usize) -> &[RawLine]
     requires { at < length lines.now }
     ensures { result.now ≡ drop (at + 1) lines.now }
 {

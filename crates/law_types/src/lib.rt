@@ -1,6 +1,7 @@
 //! The names of a text to the numbers of a signature, and back.
 #![tactic(auto)]
 
+mod bodies;
 mod cases;
 mod check;
 mod errors;
@@ -11,6 +12,7 @@ mod naming;
 mod pools;
 mod scope;
 mod seen;
+mod stated;
 mod tail;
 mod terms;
 #[cfg(test)]

@@ -46,6 +46,13 @@ impl Names {
         self.list.len() as u32
     }
 
+    /// The names themselves.
+    pub(crate) fn into_list(self) -> Seq<Text>
+        ensures { result ≡ self }
+    {
+        self.list
+    }
+
     /// The name at a place.
     pub(crate) fn get(&self, place: u32) -> Option<&Text>
         ensures { option_copied result ≡ slice_get self.now place }

@@ -34,7 +34,7 @@ pub(crate) fn read_whole(alloc: Global, lines: &[RawLine]) -> Result<Whole, NoMe
 }
 
 /// The name of the sort that a line declares.
-fn sort_in(line: &RawLine) -> Option<&Text>
+pub(crate) fn sort_in(line: &RawLine) -> Option<&Text>
     ensures { option_copied result ≡ sort_in line.now }
 {
     match line {
@@ -139,7 +139,7 @@ fn function(alloc: Global, sorts: &Names, args: &[Text], gives: &Text) -> Result
 }
 
 /// The symbol that a line declares, where so many lines of sorts stand before it.
-fn declared_in(
+pub(crate) fn declared_in(
     alloc: Global,
     sorts: &Names,
     before: u32,
