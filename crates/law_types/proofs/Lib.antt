@@ -8,3 +8,6 @@ mod TailFacts
 mod LineSteps
 pub mod SideFacts
 pub mod TermFacts
+pub mod Laid
+pub mod LaidOut
+pub mod TermSound

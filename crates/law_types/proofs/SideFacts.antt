@@ -1,5 +1,5 @@
 -- A side of a background equation that is well-formed shows no fault.
-use Rattle.std.proofs.Common.{◌≡◌, ℕ, suc, ◌<◌, List, [], ◌∷◌, map, length, Bool, true, not, eq-eqb, rules, Option, Some, None, slice_get, refl, sym, ap, ◌∙◌, subst}
+use Rattle.std.proofs.Common.{◌≡◌, ℕ, zero, suc, ◌<◌, List, [], ◌∷◌, map, length, Bool, true, not, eq-eqb, rules, Option, Some, None, slice_get, refl, sym, ap, ◌∙◌, subst}
 use Rattle.std.specs.List.{list_all}
 use Rattle.std.specs.Option.{option_or}
 use Rattle.std.proofs.lemmas.List.{length-map}
@@ -16,6 +16,7 @@ use Rattle.law_sig.specs.declared.parts.Sym.{Sym}
 use Rattle.law_sig.specs.declared.parts.Sym.TheVariants as sym
 use Rattle.law_sig.specs.declared.parts.SigParts.{SigParts}
 use Rattle.law_laws.proofs.TreeFacts.{tree_induct, fold-Var, fold-App}
+use Rattle.law_laws.proofs.BodyFacts.{some_is, none_is}
 use Rattle.law_laws.proofs.Sorts.{HaveSorts, sorted_app, sorted_var, same_sort_itself, both_true}
 use Rattle.law_read.specs.declared.raw.RawHead.{RawHead}
 use Rattle.law_read.specs.declared.raw.RawHead.TheVariants as head
@@ -43,14 +44,33 @@ headed (sym.Fun fun) = sym.Fun (record { args = fun.args; result = fun.result; p
 pub record Declares (text : Whole) (parts : SigParts) : Type 0 where
   pub sorts : text.sorts ≡ parts.sort_names
   pub names : text.names ≡ parts.symbol_names
-  pub symbols : (f : ℕ) (symbol : Sym) → slice_get parts.symbols f ≡ Some symbol → slice_get text.symbols f ≡ Some (headed symbol)
+  pub symbols : text.symbols ≡ map headed parts.symbols
   pub vars : text.vars ≡ parts.settings.vars
 
-headed_args : (symbol : Sym) → args_of (headed symbol) ≡ args_of symbol
+-- a symbol of the signature in the text, and the other way round
+got_headed : (xs : List Sym) (f : ℕ) (symbol : Sym) → slice_get xs f ≡ Some symbol → slice_get (map headed xs) f ≡ Some (headed symbol)
+got_headed [] f symbol e = none_is symbol e
+got_headed (x ∷ xs) zero symbol e = ap (λ z. Some (headed z)) (some_is x symbol e)
+got_headed (x ∷ xs) (suc f) symbol e = got_headed xs f symbol e
+
+pub in_text : (text : Whole) (parts : SigParts) → Declares text parts → (f : ℕ) (symbol : Sym) → slice_get parts.symbols f ≡ Some symbol
+    → slice_get text.symbols f ≡ Some (headed symbol)
+in_text text parts declares f symbol e = ap (λ l. slice_get l f) declares.symbols ∙ got_headed parts.symbols f symbol e
+
+had_symbol : (xs : List Sym) (f : ℕ) (h : Sym) → slice_get (map headed xs) f ≡ Some h → (symbol : Sym) × (slice_get xs f ≡ Some symbol) × (h ≡ headed symbol)
+had_symbol [] f h e = none_is h e
+had_symbol (x ∷ xs) zero h e = (x, refl, sym (some_is (headed x) h e))
+had_symbol (x ∷ xs) (suc f) h e = had_symbol xs f h e
+
+pub in_parts : (text : Whole) (parts : SigParts) → Declares text parts → (f : ℕ) (h : Sym) → slice_get text.symbols f ≡ Some h
+    → (symbol : Sym) × (slice_get parts.symbols f ≡ Some symbol) × (h ≡ headed symbol)
+in_parts text parts declares f h e = had_symbol parts.symbols f h (sym (ap (λ l. slice_get l f) declares.symbols) ∙ e)
+
+pub headed_args : (symbol : Sym) → args_of (headed symbol) ≡ args_of symbol
 headed_args (sym.Con con) = refl
 headed_args (sym.Fun fun) = refl
 
-headed_result : (symbol : Sym) → result_of (headed symbol) ≡ result_of symbol
+pub headed_result : (symbol : Sym) → result_of (headed symbol) ≡ result_of symbol
 headed_result (sym.Con con) = refl
 headed_result (sym.Fun fun) = refl
 
@@ -134,7 +154,7 @@ side_passes text parts declares formed = tree_induct (Passes text parts) at_var 
         let within : f.0 < length parts.symbol_names = subst (λ n. f.0 < n) (sym formed.one_name_each) (slice_get_within parts.symbols f.0 a.symbol a.declared) in
         let number : number_of text.names (symbol_name parts f) ≡ Some f.0 =
         ap (λ names. number_of names (symbol_name parts f)) declares.names ∙ number_again parts.symbol_names f.0 formed.symbol_names.distinct within in
-        let found : slice_get text.symbols f.0 ≡ Some (headed a.symbol) = declares.symbols f.0 a.symbol a.declared in
+        let found : slice_get text.symbols f.0 ≡ Some (headed a.symbol) = in_text text parts declares f.0 a.symbol a.declared in
         let fields = map is_field_term (map (named_term parts) args) in
         let count : length fields ≡ length (args_of (headed a.symbol)) =
         length-map (map (named_term parts) args) is_field_term ∙ length-map args (named_term parts)

@@ -1,7 +1,8 @@
-ghost use Rattle.std.specs.Prelude.{◌≡◌, ◌+◌, ◌<◌, drop, length, IfOk};
+ghost use Rattle.std.specs.Prelude.{◌≡◌, ◌+◌, ◌<◌, drop, length, IfOk, IfErr};
 ghost use Rattle.law_types.specs.Heights.{AreLow};
 ghost use Rattle.law_types.specs.Rows.{AreRows};
 ghost use Rattle.law_types.specs.Declarations.{whole};
+ghost use Rattle.law_types.specs.Typed.{IsTypedAs, StatesNothing};
 ghost use Rattle.law_types.specs.LineFaults.{setting_fault, declared_fault, line_fault, nothing_seen, faults_from, first_fault, TellsFault};
 
 use crate::cases::{case_fault, match_fault, rows};
@@ -11,9 +12,10 @@ use crate::lines::{body_fault, con_fault, fun_fault, out_of, own_sorts, sort_fau
 use crate::seen::Seen;
 use crate::tail::{background_fault, explored_faults, pool_fault, seed_fault, values_fault};
 use crate::terms::sort_at;
+use crate::stated::stated;
 use crate::whole::{Whole, read_whole};
-use law_read::RawLine;
-use law_sig::{NoMemory, Seq, SymId};
+use law_read::{RawLine, RawSig};
+use law_sig::{NoMemory, Seq, Sig, SymId};
 use std::alloc::Global;
 
 /// The fault of a line of settings.
@@ -135,4 +137,22 @@ pub fn check_lines(alloc: Global, lines: &[RawLine]) -> Result<(), TypeErr>
     let has = lows_at(alloc, &text, text.sorts.len())?;
     let rows = rows(alloc, &text)?;
     walk(alloc, &text, has.as_slice(), rows.as_slice(), lines)
+}
+
+/// The signature that a text states; else the first line that shows a fault, with its first fault, and no signature is
+/// stated.
+pub fn check_sig(alloc: Global, raw: &RawSig) -> Result<Sig, TypeErr>
+    ensures typed { IfOk result (λ sig. IsTypedAs raw.now sig) }
+    ensures first { TellsFault result (first_fault raw.now) }
+    ensures nothing { IfErr result (λ e. StatesNothing raw.now e) }
+{
+    let lines = raw.lines();
+    let text = read_whole(alloc, lines)?;
+    let has = lows_at(alloc, &text, text.sorts.len())?;
+    let rows = rows(alloc, &text)?;
+    if let Err(e) = walk(alloc, &text, has.as_slice(), rows.as_slice(), lines) {
+        return Err(e);
+    }
+    let parts = stated(alloc, text, rows.as_slice(), lines)?;
+    Ok(Sig::build(alloc, parts)?)
 }

@@ -10,6 +10,7 @@ mod lines;
 mod names;
 mod naming;
 mod pools;
+mod probe;
 mod scope;
 mod seen;
 mod stated;
@@ -20,7 +21,7 @@ mod tests;
 mod typing;
 mod whole;
 
-pub use check::check_lines;
+pub use check::{check_lines, check_sig};
 pub use errors::{TypeErr, TypeKind};
 pub use naming::{name_of_sort, name_of_symbol, raw_term};
 pub use pools::pool_lines;

@@ -1,0 +1,8 @@
+ghost use Rattle.std.specs.Prelude.{◌≡◌};
+
+#[tactic(auto, using(crate::proofs::LaidOut::laid_out, crate::proofs::TermSound::stands))]
+pub(crate) fn probe(n: u32) -> u32
+    ensures { result ≡ n }
+{
+    n
+}
