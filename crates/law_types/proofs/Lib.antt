@@ -11,3 +11,4 @@ pub mod TermFacts
 pub mod Laid
 pub mod LaidOut
 pub mod TermSound
+pub mod BodySound
