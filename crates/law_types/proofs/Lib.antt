@@ -12,3 +12,4 @@ pub mod Laid
 pub mod LaidOut
 pub mod TermSound
 pub mod BodySound
+pub mod Gathered

@@ -1,5 +1,5 @@
 -- What the lines of a text declare, whatever else may be wrong with them: names, and by number the sorts of symbols.
-use Rattle.std.specs.Prelude.{ℕ, zero, suc, ◌-◌, List, [], ◌∷◌, length, map, Bool, false, nat_lt, not, ◌||◌, Option, Some, None, unwrap_or}
+use Rattle.std.specs.Prelude.{ℕ, zero, suc, ◌-◌, List, [], ◌∷◌, ◌++◌, length, map, Bool, false, nat_lt, not, ◌||◌, Option, Some, None, unwrap_or}
 use Rattle.std.specs.List.{list_any}
 use Rattle.law_sig.specs.WellFormed.{makes_from}
 use Rattle.law_sig.specs.declared.tree.SortId.{SortId}
@@ -70,28 +70,40 @@ abbrev pub symbols_from : List (List ℕ) → ℕ → List RawLine → List Sym
 symbols_from sorts before [] = []
 symbols_from sorts before (l ∷ lines) = added (declared_in sorts before l) (symbols_from sorts (sorts_after before (sort_in l)) lines)
 
--- the numbers of variables of the sorts, and their widths: in the first version one number for all, stated before them
-abbrev pub all_vars : ℕ → List RawLine → List ℕ
-all_vars common [] = []
-all_vars common (line.Vars n ∷ lines) = all_vars n lines
-all_vars common (line.SortLine name ∷ lines) = common ∷ all_vars common lines
-all_vars common (line.SortLine2 name vars width ∷ lines) = vars ∷ all_vars common lines
-all_vars common (other ∷ lines) = all_vars common lines
+-- the numbers of variables of the sorts, and their widths: in the first version one number for all, stated in a line of
+-- its own
+abbrev pub vars_in : List RawLine → ℕ
+vars_in [] = 0
+vars_in (line.Vars n ∷ lines) = n
+vars_in (other ∷ lines) = vars_in lines
 
-abbrev pub all_widths : ℕ → List RawLine → List ℕ
-all_widths common [] = []
-all_widths common (line.Width n ∷ lines) = all_widths n lines
-all_widths common (line.SortLine name ∷ lines) = common ∷ all_widths common lines
-all_widths common (line.SortLine2 name vars width ∷ lines) = width ∷ all_widths common lines
-all_widths common (other ∷ lines) = all_widths common lines
+abbrev pub width_in : List RawLine → ℕ
+width_in [] = 0
+width_in (line.Width n ∷ lines) = n
+width_in (other ∷ lines) = width_in lines
+
+abbrev pub vars_of : ℕ → RawLine → List ℕ
+vars_of common (line.SortLine name) = common ∷ []
+vars_of common (line.SortLine2 name vars width) = vars ∷ []
+vars_of common other = []
+
+abbrev pub width_of : ℕ → RawLine → List ℕ
+width_of common (line.SortLine name) = common ∷ []
+width_of common (line.SortLine2 name vars width) = width ∷ []
+width_of common other = []
+
+-- what each line gives, one after another
+abbrev pub gathered : {A : Type 0} → (RawLine → List A) → List RawLine → List A
+gathered f [] = []
+gathered f (l ∷ lines) = f l ++ gathered f lines
 
 abbrev pub whole : List RawLine → Whole
 whole lines = record {
   sorts = sort_names lines;
   names = symbol_names lines;
   symbols = symbols_from (sort_names lines) 0 lines;
-  vars = all_vars 0 lines;
-  widths = all_widths 0 lines;
+  vars = gathered (vars_of (vars_in lines)) lines;
+  widths = gathered (width_of (width_in lines)) lines;
 }
 
 -- Heights of values

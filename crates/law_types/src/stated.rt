@@ -1,7 +1,7 @@
 ghost use Rattle.std.specs.Prelude.{◌≡◌, ◌++◌, map, IfOk, OnOk};
-ghost use Rattle.law_types.specs.Declarations.{whole, sort_names};
+ghost use Rattle.law_types.specs.Declarations.{gathered, sort_names};
 ghost use Rattle.law_types.specs.Rows.{AreRows};
-ghost use Rattle.law_types.specs.Stated.{short, gathered, symbol_id, stated_tree, stated_symbols, size_in, budget_in, pairs_in, weight_of, explored_of, equation_of, stated_values, stated_pools, stated_rule, stated};
+ghost use Rattle.law_types.specs.Stated.{short, symbol_id, stated_tree, stated_symbols, size_in, budget_in, pairs_in, weight_of, explored_of, equation_of, stated_values, stated_pools, stated_rule, stated};
 
 use crate::bodies::{filled, short, stated_tree, symbol_id};
 use crate::check::lines_behind;

@@ -1,6 +1,6 @@
 ghost use Rattle.std.specs.Prelude.{◌≡◌, length, map, IfOk};
 ghost use Rattle.std.specs.Option.{option_copied};
-ghost use Rattle.law_types.specs.Declarations.{sort_id, sort_in, symbol_in, declared_in, constructor, function, sort_names, symbol_names, symbols_from, all_vars, all_widths, whole};
+ghost use Rattle.law_types.specs.Declarations.{sort_id, sort_in, symbol_in, declared_in, constructor, function, sort_names, symbol_names, symbols_from, gathered, vars_in, vars_of, width_in, width_of, whole};
 
 use crate::names::Names;
 use law_read::RawLine;
@@ -189,14 +189,35 @@ fn symbols(alloc: Global, sorts: &Names, lines: &[RawLine]) -> Result<Seq<Sym>, 
     Ok(symbols)
 }
 
-fn all_vars(alloc: Global, lines: &[RawLine]) -> Result<Seq<u64>, NoMemory>
-    ensures { IfOk result (λ vars. vars ≡ all_vars 0 lines.now) }
+fn vars_in(lines: &[RawLine]) -> u64
+    ensures { result ≡ vars_in lines.now }
 {
-    let mut common = 0;
+    for line in lines {
+        if let RawLine::Vars(n) = line {
+            return *n;
+        }
+    }
+    0
+}
+
+fn width_in(lines: &[RawLine]) -> u64
+    ensures { result ≡ width_in lines.now }
+{
+    for line in lines {
+        if let RawLine::Width(n) = line {
+            return *n;
+        }
+    }
+    0
+}
+
+fn all_vars(alloc: Global, lines: &[RawLine]) -> Result<Seq<u64>, NoMemory>
+    ensures { IfOk result (λ vars. vars ≡ gathered (vars_of (vars_in lines.now)) lines.now) }
+{
+    let common = vars_in(lines);
     let mut found = Seq::new(alloc);
     for line in lines {
         match line {
-            RawLine::Vars(n) => common = *n,
             RawLine::SortLine(_) => found.push(common)?,
             RawLine::SortLine2 {
                 name: _,
@@ -210,13 +231,12 @@ fn all_vars(alloc: Global, lines: &[RawLine]) -> Result<Seq<u64>, NoMemory>
 }
 
 fn all_widths(alloc: Global, lines: &[RawLine]) -> Result<Seq<u64>, NoMemory>
-    ensures { IfOk result (λ widths. widths ≡ all_widths 0 lines.now) }
+    ensures { IfOk result (λ widths. widths ≡ gathered (width_of (width_in lines.now)) lines.now) }
 {
-    let mut common = 0;
+    let common = width_in(lines);
     let mut found = Seq::new(alloc);
     for line in lines {
         match line {
-            RawLine::Width(n) => common = *n,
             RawLine::SortLine(_) => found.push(common)?,
             RawLine::SortLine2 {
                 name: _,
