@@ -39,7 +39,7 @@ pub record IsQuiet {A : Type 0} (f : RawLine → List A) : Type 0 where
   pub values_line : (s : List ℕ) (v : List RawTerm) → f (line.Values s v) ≡ []
   pub end_line : f line.End ≡ []
 
-skip : {A : Type 0} (f : RawLine → List A) (l : RawLine) (rest : List RawLine) → f l ≡ [] → gathered f (l ∷ rest) ≡ gathered f rest
+pub skip : {A : Type 0} (f : RawLine → List A) (l : RawLine) (rest : List RawLine) → f l ≡ [] → gathered f (l ∷ rest) ≡ gathered f rest
 skip f l rest e = ap (λ z. z ++ gathered f rest) e
 
 give : {A : Type 0} (f : RawLine → List A) (l : RawLine) (rest : List RawLine) (x : A) → f l ≡ x ∷ [] → gathered f (l ∷ rest) ≡ x ∷ gathered f rest
@@ -62,7 +62,7 @@ pools_quiet f q [] = skip f line.End [] q.end_line
 pools_quiet f q (p ∷ ps) = skip f line.Pool (values_then p (pools_then ps (line.End ∷ []))) q.pool_line
     ∙ values_quiet f q p (pools_then ps (line.End ∷ [])) ∙ pools_quiet f q ps
 
-ends_quiet : {A : Type 0} (f : RawLine → List A) → IsQuiet f → (ps : PoolRows) → gathered f (pool_lines ps) ≡ []
+pub ends_quiet : {A : Type 0} (f : RawLine → List A) → IsQuiet f → (ps : PoolRows) → gathered f (pool_lines ps) ≡ []
 ends_quiet f q (given ps) = pools_quiet f q ps
 ends_quiet f q (seeded s h c) = skip f line.End [] q.end_line
 
@@ -70,7 +70,7 @@ rule_quiet : {A : Type 0} (f : RawLine → List A) → IsQuiet f → (ps : PoolR
 rule_quiet f q (given ps) rest = skip f line.PoolsGiven rest q.given_line
 rule_quiet f q (seeded s h c) rest = skip f (line.PoolsSeed s h c) rest (q.seed_line s h c)
 
-starts_quiet : {A : Type 0} (f : RawLine → List A) → IsQuiet f → (v : Version) (size budget pairs : ℕ) (ps : PoolRows) (rest : List RawLine)
+pub starts_quiet : {A : Type 0} (f : RawLine → List A) → IsQuiet f → (v : Version) (size budget pairs : ℕ) (ps : PoolRows) (rest : List RawLine)
     → gathered f (start_then v size budget pairs ps rest) ≡ gathered f rest
 starts_quiet f q (first vars width) size budget pairs ps rest =
     ap₂ ◌++◌ q.head (ap₂ ◌++◌ (q.vars vars) (ap₂ ◌++◌ (q.size size) (ap₂ ◌++◌ (q.width width) (ap₂ ◌++◌ (q.budget budget)
@@ -112,7 +112,7 @@ sorts_give_cons f g v (s ∷ ss) rest e k = skip f (sort_line v s) (cons_then v 
     ∙ cons_give f g v s.cons (sorts_then v ss rest) k.0 ∙ ap (λ z. map g s.cons ++ z) (sorts_give_cons f g v ss rest e k.1)
     ∙ sym (append_assoc (map g s.cons) (per_con g ss) (gathered f rest))
 
-sorts_quiet : {A : Type 0} (f : RawLine → List A) (v : Version) (ss : List SortRow) (rest : List RawLine)
+pub sorts_quiet : {A : Type 0} (f : RawLine → List A) (v : Version) (ss : List SortRow) (rest : List RawLine)
     → ((s : SortRow) → f (sort_line v s) ≡ []) → ((c : ConRow) → f (con_line v c) ≡ []) → gathered f (sorts_then v ss rest) ≡ gathered f rest
 sorts_quiet f v [] rest e k = refl
 sorts_quiet f v (s ∷ ss) rest e k = skip f (sort_line v s) (cons_then v s.cons (sorts_then v ss rest)) (e s)
@@ -126,7 +126,7 @@ funs_give f q g v [] rest e = refl
 funs_give f q g v (r ∷ fs) rest e = give f (fun_line v r) (rules_then r.rules (funs_then v fs rest)) (g r) e.0
     ∙ ap (λ z. g r ∷ z) (rules_quiet f q r.rules (funs_then v fs rest) ∙ funs_give f q g v fs rest e.1)
 
-funs_quiet : {A : Type 0} (f : RawLine → List A) → IsQuiet f → (v : Version) (fs : List FunRow) (rest : List RawLine)
+pub funs_quiet : {A : Type 0} (f : RawLine → List A) → IsQuiet f → (v : Version) (fs : List FunRow) (rest : List RawLine)
     → ((r : FunRow) → f (fun_line v r) ≡ []) → gathered f (funs_then v fs rest) ≡ gathered f rest
 funs_quiet f q v [] rest e = refl
 funs_quiet f q v (r ∷ fs) rest e = skip f (fun_line v r) (rules_then r.rules (funs_then v fs rest)) (e r)
@@ -134,21 +134,21 @@ funs_quiet f q v (r ∷ fs) rest e = skip f (fun_line v r) (rules_then r.rules (
 
 -- the rest
 
-sides_give : {A : Type 0} (f : RawLine → List A) (g : SidesRow → A) (es : List SidesRow) (rest : List RawLine)
+pub sides_give : {A : Type 0} (f : RawLine → List A) (g : SidesRow → A) (es : List SidesRow) (rest : List RawLine)
     → ((e : SidesRow) → f (line.Background e.left e.right) ≡ g e ∷ []) → gathered f (background_then es rest) ≡ map g es ++ gathered f rest
 sides_give f g [] rest k = refl
 sides_give f g (e ∷ es) rest k = give f (line.Background e.left e.right) (background_then es rest) (g e) (k e) ∙ ap (λ z. g e ∷ z) (sides_give f g es rest k)
 
-sides_quiet : {A : Type 0} (f : RawLine → List A) (es : List SidesRow) (rest : List RawLine)
+pub sides_quiet : {A : Type 0} (f : RawLine → List A) (es : List SidesRow) (rest : List RawLine)
     → ((l r : RawTerm) → f (line.Background l r) ≡ []) → gathered f (background_then es rest) ≡ gathered f rest
 sides_quiet f [] rest k = refl
 sides_quiet f (e ∷ es) rest k = skip f (line.Background e.left e.right) (background_then es rest) (k e.left e.right) ∙ sides_quiet f es rest k
 
 -- explored names and background give nothing either
-record IsBrief {A : Type 0} (f : RawLine → List A) : Type 0 where
-  quiet : IsQuiet f
-  explore : (names : List (List ℕ)) → f (line.Explore names) ≡ []
-  sides : (l r : RawTerm) → f (line.Background l r) ≡ []
+pub record IsBrief {A : Type 0} (f : RawLine → List A) : Type 0 where
+  pub quiet : IsQuiet f
+  pub explore : (names : List (List ℕ)) → f (line.Explore names) ≡ []
+  pub sides : (l r : RawTerm) → f (line.Background l r) ≡ []
 
 tail_quiet : {A : Type 0} (f : RawLine → List A) → IsBrief f → (l : Layout) → gathered f (tail_lines l) ≡ []
 tail_quiet f b l = skip f (line.Explore l.explored) (background_then l.background (pool_lines l.pools)) (b.explore l.explored)
@@ -193,14 +193,14 @@ symbol_names_brief = record {
 }
 
 -- one thing for each sort
-per_sort : {A : Type 0} (f : RawLine → List A) → IsBrief f → (g : SortRow → A) (l : Layout) → Each (λ s. f (sort_line l.version s) ≡ g s ∷ []) l.sorts
+pub per_sort : {A : Type 0} (f : RawLine → List A) → IsBrief f → (g : SortRow → A) (l : Layout) → Each (λ s. f (sort_line l.version s) ≡ g s ∷ []) l.sorts
     → ((c : ConRow) → f (con_line l.version c) ≡ []) → ((r : FunRow) → f (fun_line l.version r) ≡ []) → gathered f (layout_lines l) ≡ map g l.sorts
 per_sort f b g l e k m = starts_quiet f b.quiet l.version l.size l.budget l.pairs l.pools (declared_lines l)
     ∙ sorts_give f g l.version l.sorts (funs_then l.version l.funs (tail_lines l)) e k
     ∙ ap (λ z. map g l.sorts ++ z) (funs_quiet f b.quiet l.version l.funs (tail_lines l) m ∙ tail_quiet f b l) ∙ append-nil (map g l.sorts)
 
 -- one thing for each symbol
-per_symbol : {A : Type 0} (f : RawLine → List A) → IsBrief f → (g : ConRow → A) (h : FunRow → A) (l : Layout) → ((s : SortRow) → f (sort_line l.version s) ≡ [])
+pub per_symbol : {A : Type 0} (f : RawLine → List A) → IsBrief f → (g : ConRow → A) (h : FunRow → A) (l : Layout) → ((s : SortRow) → f (sort_line l.version s) ≡ [])
     → Each (λ (s : SortRow). Each (λ c. f (con_line l.version c) ≡ g c ∷ []) s.cons) l.sorts → Each (λ r. f (fun_line l.version r) ≡ h r ∷ []) l.funs
     → gathered f (layout_lines l) ≡ per_con g l.sorts ++ map h l.funs
 per_symbol f b g h l e k m = starts_quiet f b.quiet l.version l.size l.budget l.pairs l.pools (declared_lines l)

@@ -13,3 +13,4 @@ pub mod LaidOut
 pub mod TermSound
 pub mod BodySound
 pub mod Gathered
+pub mod Told
