@@ -14,3 +14,4 @@ pub mod TermSound
 pub mod BodySound
 pub mod Gathered
 pub mod Told
+pub mod Passed
