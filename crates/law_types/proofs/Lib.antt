@@ -15,3 +15,4 @@ pub mod BodySound
 pub mod Gathered
 pub mod Told
 pub mod Passed
+pub mod Fresh
