@@ -16,3 +16,4 @@ pub mod Gathered
 pub mod Told
 pub mod Passed
 pub mod Fresh
+pub mod Spelled
