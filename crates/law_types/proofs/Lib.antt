@@ -17,3 +17,4 @@ pub mod Told
 pub mod Passed
 pub mod Fresh
 pub mod Spelled
+pub mod States
