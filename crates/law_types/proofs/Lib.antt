@@ -18,3 +18,4 @@ pub mod Passed
 pub mod Fresh
 pub mod Spelled
 pub mod States
+pub mod Blocks
