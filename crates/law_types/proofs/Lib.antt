@@ -19,3 +19,4 @@ pub mod Fresh
 pub mod Spelled
 pub mod States
 pub mod Blocks
+pub mod Counted
