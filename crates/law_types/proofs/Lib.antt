@@ -20,3 +20,4 @@ pub mod Spelled
 pub mod States
 pub mod Blocks
 pub mod Counted
+pub mod RulesSound
