@@ -21,3 +21,4 @@ pub mod States
 pub mod Blocks
 pub mod Counted
 pub mod RulesSound
+pub mod SymbolsSound
