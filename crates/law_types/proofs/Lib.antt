@@ -22,3 +22,5 @@ pub mod Blocks
 pub mod Counted
 pub mod RulesSound
 pub mod SymbolsSound
+pub mod HeightSound
+pub mod TailSound
