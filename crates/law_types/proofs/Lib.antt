@@ -24,3 +24,4 @@ pub mod RulesSound
 pub mod SymbolsSound
 pub mod HeightSound
 pub mod TailSound
+pub mod TextSound
