@@ -2,7 +2,7 @@ mod NameTable
 mod NumberFacts
 mod TreeOfFacts
 mod HeightFacts
-mod StableFacts
+pub mod StableFacts
 mod RowFacts
 mod TailFacts
 mod LineSteps
@@ -25,3 +25,4 @@ pub mod SymbolsSound
 pub mod HeightSound
 pub mod TailSound
 pub mod TextSound
+pub mod HeightComplete

@@ -8,7 +8,7 @@ use Rattle.law_types.specs.Heights.{AreLow}
 use Rattle.law_types.specs.declared.whole.Whole.{Whole}
 use Rattle.law_types.proofs.HeightFacts.{unknown_low, below}
 
-abbrev SameAt : Whole → ℕ → ℕ → Type 0
+abbrev pub SameAt : Whole → ℕ → ℕ → Type 0
 SameAt text m n = (sort : SortId) → is_low text m sort ≡ is_low text n sort
 
 -- the test for the next height, from the one before
@@ -17,7 +17,7 @@ unfolding is_low
 low_suc text m n same sort =
     ap (λ (f : SortId → Bool). not (nat_lt sort.0 (length text.sorts)) || list_any (makes_from f sort) text.symbols) (λ i s. same s i)
 
-later_same : (text : Whole) (n : ℕ) → SameAt text (suc n) n → (k : ℕ) → SameAt text (n + k) n
+pub later_same : (text : Whole) (n : ℕ) → SameAt text (suc n) n → (k : ℕ) → SameAt text (n + k) n
 later_same text n still zero sort = ap (λ m. is_low text m sort) plain
   where
     plain : n + zero ≡ n

@@ -208,7 +208,7 @@ module _ (text : Whole) (parts : SigParts) (l : Layout) (x : Sound text parts l)
       valued_at text nothing_seen l.sorts x.good.sorts sort.0 sort.0 zero_plus n
 
   has_values : (sort : SortId) → IsDeclared parts sort → (v : Tree) × IsValueOf parts sort v
-  has_values sort declared = low_value text parts x.states.declares each_symbol (length text.sorts) sort declared (valued sort declared)
+  has_values sort declared = low_value text parts x.states.declares each_symbol (length text.sorts + 1) sort declared (valued sort declared)
 
   sort_names_ok : AreNames parts.sort_names
   sort_names_ok = record {

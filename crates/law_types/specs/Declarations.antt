@@ -1,5 +1,5 @@
 -- What the lines of a text declare, whatever else may be wrong with them: names, and by number the sorts of symbols.
-use Rattle.std.specs.Prelude.{ℕ, zero, suc, ◌-◌, List, [], ◌∷◌, ◌++◌, length, map, Bool, false, nat_lt, not, ◌||◌, Option, Some, None, unwrap_or}
+use Rattle.std.specs.Prelude.{ℕ, zero, suc, ◌+◌, ◌-◌, List, [], ◌∷◌, ◌++◌, length, map, Bool, false, nat_lt, not, ◌||◌, Option, Some, None, unwrap_or}
 use Rattle.std.specs.List.{list_any}
 use Rattle.law_sig.specs.WellFormed.{makes_from}
 use Rattle.law_sig.specs.declared.tree.SortId.{SortId}
@@ -113,7 +113,8 @@ unfoldable pub is_low : Whole → ℕ → SortId → Bool
 is_low text zero sort = false
 is_low text (suc n) sort = not (nat_lt sort.0 (length text.sorts)) || list_any (makes_from (is_low text n) sort) text.symbols
 
--- whether a sort has a value at all: if it has one, then one that is no higher than the number of sorts, since the least
--- heights of the sorts below a sort's own are less than its own, and each of them is the least height of some sort
+-- whether a sort has a value at all: if it has one, then one that is no higher than one more than the number of sorts,
+-- since the least heights of the sorts below a sort's own are less than its own, and each of them is the least height of
+-- some sort, or that of a name that isn't a sort
 abbrev pub has_value : Whole → SortId → Bool
-has_value text sort = is_low text (length text.sorts) sort
+has_value text sort = is_low text (length text.sorts + 1) sort

@@ -1,4 +1,5 @@
-ghost use Rattle.std.specs.Prelude.{◌≡◌, ◌+◌, ◌<◌, drop, length, IfOk, IfErr};
+ghost use Rattle.std.specs.Prelude.{◌≡◌, ◌+◌, ◌<◌, drop, length, None, IfOk, IfErr};
+ghost use Rattle.law_read.specs.Signature.{IsRawSig};
 ghost use Rattle.law_types.specs.Heights.{AreLow};
 ghost use Rattle.law_types.specs.Rows.{AreRows};
 ghost use Rattle.law_types.specs.Declarations.{whole};
@@ -34,7 +35,7 @@ fn setting_fault(line: &RawLine) -> Option<TypeKind>
 
 /// The first fault of a line that declares a sort or a symbol.
 fn declared_fault(text: &Whole, has: &[bool], seen: &Seen, line: &RawLine) -> Option<TypeKind>
-    requires { AreLow text.now (length text.now.sorts) has.now }
+    requires { AreLow text.now (length text.now.sorts + 1) has.now }
     ensures { result ≡ declared_fault text.now seen.now line.now }
 {
     match line {
@@ -70,7 +71,7 @@ fn line_fault(
     rest: &[RawLine],
     line: &RawLine,
 ) -> Result<Option<TypeKind>, NoMemory>
-    requires has { AreLow text.now (length text.now.sorts) has.now }
+    requires has { AreLow text.now (length text.now.sorts + 1) has.now }
     requires rows { AreRows text.now rows.now }
     ensures { IfOk result (λ fault. fault ≡ line_fault text.now seen.now rest.now line.now) }
 {
@@ -112,7 +113,7 @@ fn walk(
     rows: &[Seq<SymId>],
     lines: &[RawLine],
 ) -> Result<(), TypeErr>
-    requires has { AreLow text.now (length text.now.sorts) has.now }
+    requires has { AreLow text.now (length text.now.sorts + 1) has.now }
     requires rows { AreRows text.now rows.now }
     ensures { TellsFault result (faults_from text.now nothing_seen 1 lines.now) }
 {
@@ -129,14 +130,54 @@ fn walk(
     Ok(())
 }
 
+/// What a text declares, with the tables that going through its lines needs.
+#[derive(Drop)]
+struct Prepared {
+    text: Whole,
+    has: Vec<bool>,
+    rows: Seq<Seq<SymId>>,
+}
+
+fn prepare(alloc: Global, lines: &[RawLine]) -> Result<Prepared, NoMemory>
+    ensures text { IfOk result (λ p. p.text ≡ whole lines.now) }
+    ensures has { IfOk result (λ p. AreLow p.text (length p.text.sorts + 1) p.has.items) }
+    ensures rows { IfOk result (λ p. AreRows p.text p.rows) }
+{
+    let text = read_whole(alloc, lines)?;
+    let has = lows_at(alloc, &text, text.sorts.len() as u64 + 1)?;
+    let rows = rows(alloc, &text)?;
+    Ok(Prepared { text, has, rows })
+}
+
 /// Whether no line of a text shows a fault; else the first that does, with its first fault.
 pub fn check_lines(alloc: Global, lines: &[RawLine]) -> Result<(), TypeErr>
     ensures { TellsFault result (first_fault lines.now) }
 {
-    let text = read_whole(alloc, lines)?;
-    let has = lows_at(alloc, &text, text.sorts.len())?;
-    let rows = rows(alloc, &text)?;
-    walk(alloc, &text, has.as_slice(), rows.as_slice(), lines)
+    let prepared = prepare(alloc, lines)?;
+    walk(
+        alloc,
+        &prepared.text,
+        prepared.has.as_slice(),
+        prepared.rows.as_slice(),
+        lines,
+    )
+}
+
+/// The signature that the lines of a text without faults state.
+fn build_stated(
+    alloc: Global,
+    prepared: Prepared,
+    lines: &[RawLine],
+) -> Result<Sig, NoMemory>
+    requires raw { IsRawSig lines.now }
+    requires text { prepared.text ≡ whole lines.now }
+    requires rows { AreRows prepared.text prepared.rows }
+    requires passed { first_fault lines.now ≡ None }
+    ensures { IfOk result (λ sig. IsTypedAs lines.now sig) }
+{
+    let Prepared { text, has: _, rows } = prepared;
+    let parts = stated(alloc, text, rows.as_slice(), lines)?;
+    Sig::build(alloc, parts)
 }
 
 /// The signature that a text states; else the first line that shows a fault, with its first fault, and no signature is
@@ -147,12 +188,13 @@ pub fn check_sig(alloc: Global, raw: &RawSig) -> Result<Sig, TypeErr>
     ensures nothing { IfErr result (λ e. StatesNothing raw.now e) }
 {
     let lines = raw.lines();
-    let text = read_whole(alloc, lines)?;
-    let has = lows_at(alloc, &text, text.sorts.len())?;
-    let rows = rows(alloc, &text)?;
-    if let Err(e) = walk(alloc, &text, has.as_slice(), rows.as_slice(), lines) {
+    let prepared = prepare(alloc, lines)?;
+    let (text, has, rows) = (&prepared.text, &prepared.has, &prepared.rows);
+    if let Err(e) = walk(alloc, text, has.as_slice(), rows.as_slice(), lines) {
         return Err(e);
     }
-    let parts = stated(alloc, text, rows.as_slice(), lines)?;
-    Ok(Sig::build(alloc, parts)?)
+    match build_stated(alloc, prepared, lines) {
+        Ok(sig) => Ok(sig),
+        Err(NoMemory) => Err(TypeErr::NoMemory),
+    }
 }

@@ -1,6 +1,6 @@
 ghost use Rattle.std.specs.Prelude.{◌≡◌, ◌+◌, ◌<◌, length, false, true, replicate, IfOk, IsTrue};
 ghost use Rattle.std.specs.List.{list_all};
-ghost use Rattle.law_types.specs.Declarations.{is_low};
+ghost use Rattle.law_types.specs.Declarations.{is_low, has_value};
 ghost use Rattle.law_types.specs.Heights.{AreLow, marked};
 
 use crate::whole::Whole;
@@ -22,7 +22,7 @@ fn none_low(alloc: Global, count: u32) -> Result<Vec<bool>, NoMemory>
 
 /// Whether a sort has a value of at most this height, by the table for it: a name that isn't a sort counts as of height 1.
 #[tactic(auto, using(crate::proofs::HeightFacts::height_facts))]
-pub(crate) fn has_low(text: &Whole, height: u32, lows: &[bool], sort: SortId) -> bool
+pub(crate) fn has_low(text: &Whole, height: u64, lows: &[bool], sort: SortId) -> bool
     requires { AreLow text.now height lows.now }
     ensures { result ≡ is_low text.now height sort }
 {
@@ -33,7 +33,15 @@ pub(crate) fn has_low(text: &Whole, height: u32, lows: &[bool], sort: SortId) ->
     }
 }
 
-fn all_low(text: &Whole, height: u32, lows: &[bool], sorts: &[SortId]) -> bool
+/// Whether a sort has a value at all, by the table for one more than the number of sorts.
+pub(crate) fn has_value(text: &Whole, has: &[bool], sort: SortId) -> bool
+    requires { AreLow text.now (length text.now.sorts + 1) has.now }
+    ensures { result ≡ has_value text.now sort }
+{
+    has_low(text, text.sorts.len() as u64 + 1, has, sort)
+}
+
+fn all_low(text: &Whole, height: u64, lows: &[bool], sorts: &[SortId]) -> bool
     requires { AreLow text.now height lows.now }
     ensures { result ≡ list_all (is_low text.now height) sorts.now }
 {
@@ -56,7 +64,7 @@ fn mark(lows: &mut Vec<bool>, low: bool, place: u32)
 
 /// The table for the next height.
 #[tactic(auto, using(crate::proofs::HeightFacts::height_facts))]
-fn next_low(alloc: Global, text: &Whole, height: u32, lows: &[bool]) -> Result<Vec<bool>, NoMemory>
+fn next_low(alloc: Global, text: &Whole, height: u64, lows: &[bool]) -> Result<Vec<bool>, NoMemory>
     requires { AreLow text.now height lows.now }
     ensures { IfOk result (λ next. AreLow text.now (height + 1) next.items) }
 {
@@ -84,7 +92,7 @@ fn is_same(left: &[bool], right: &[bool]) -> bool
 }
 
 /// Whether the next height changes nothing, where it isn't the first.
-fn is_still(at: u32, lows: &Vec<bool>, next: &Vec<bool>) -> bool
+fn is_still(at: u64, lows: &Vec<bool>, next: &Vec<bool>) -> bool
     requires { length lows.now.items ≡ length next.now.items }
     ensures { result ≡ true → (0 < at) × (lows.now.items ≡ next.now.items) }
 {
@@ -96,7 +104,7 @@ fn is_still(at: u32, lows: &Vec<bool>, next: &Vec<bool>) -> bool
 
 /// The table for a height. From a height on that changes nothing it stays the same.
 #[tactic(auto, using(crate::proofs::HeightFacts::height_facts))]
-pub(crate) fn lows_at(alloc: Global, text: &Whole, height: u32) -> Result<Vec<bool>, NoMemory>
+pub(crate) fn lows_at(alloc: Global, text: &Whole, height: u64) -> Result<Vec<bool>, NoMemory>
     ensures { IfOk result (λ lows. AreLow text.now height lows.items) }
 {
     let mut lows = none_low(alloc, text.sorts.len())?;

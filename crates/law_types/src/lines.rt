@@ -1,11 +1,11 @@
-ghost use Rattle.std.specs.Prelude.{◌≡◌, length, IfOk};
+ghost use Rattle.std.specs.Prelude.{◌≡◌, ◌+◌, length, IfOk};
 ghost use Rattle.law_types.specs.Names.{stands_before};
 ghost use Rattle.law_types.specs.Heights.{AreLow};
 ghost use Rattle.law_types.specs.LineFaults.{out_of, sort_faults, unknown_sort, unknown_sorts, name_faults, con_faults, fun_faults, owner, own_symbol, sort_given, body_scope, body_fault};
 ghost use Rattle.law_types.specs.TermFaults.{wanted_of};
 
 use crate::errors::TypeKind;
-use crate::heights::has_low;
+use crate::heights::has_value;
 use crate::names::Names;
 use crate::scope::{Scope, Standing};
 use crate::seen::Seen;
@@ -34,7 +34,7 @@ fn stands_before(names: &Names, place: u32, name: &Text) -> bool
 
 /// The first fault of the line of a sort, but for its numbers.
 pub(crate) fn sort_fault(text: &Whole, has: &[bool], seen: &Seen, name: &Text) -> Option<TypeKind>
-    requires { AreLow text.now (length text.now.sorts) has.now }
+    requires { AreLow text.now (length text.now.sorts + 1) has.now }
     ensures { result ≡ sort_faults text.now seen.now name.now }
 {
     let range = fault_if(64 <= seen.sorts, TypeKind::SettingRange);
@@ -42,7 +42,7 @@ pub(crate) fn sort_fault(text: &Whole, has: &[bool], seen: &Seen, name: &Text) -
         stands_before(&text.sorts, seen.sorts, name),
         TypeKind::NameTwice,
     );
-    let valued = has_low(text, text.sorts.len(), has, SortId(seen.sorts));
+    let valued = has_value(text, has, SortId(seen.sorts));
     let empty = fault_if(!valued, TypeKind::EmptySort);
     range.or(twice.or(empty))
 }

@@ -1,10 +1,10 @@
-ghost use Rattle.std.specs.Prelude.{◌≡◌, length, [], None, Some, slice_get, IfOk};
+ghost use Rattle.std.specs.Prelude.{◌≡◌, ◌+◌, length, [], None, Some, slice_get, IfOk};
 ghost use Rattle.law_types.specs.Names.{number_of};
 ghost use Rattle.law_types.specs.Heights.{AreLow};
 ghost use Rattle.law_types.specs.LineFaults.{is_too_low, some_too_low, seed_faults, explored_fault, explored_faults, side_scope, value_scope, name_sort, root_sort, sides_mismatch, background_faults, values_count, pool_faults, is_width, each_value_fault, values_faults};
 
 use crate::errors::TypeKind;
-use crate::heights::{has_low, lows_at};
+use crate::heights::{has_low, has_value, lows_at};
 use crate::lines::out_of;
 use crate::names::Names;
 use crate::scope::{Scope, Standing};
@@ -16,20 +16,20 @@ use law_sig::{NoMemory, Seq, SortId, Text};
 use std::alloc::Global;
 
 /// Whether a height is below the least height of a sort that has a value.
-fn is_too_low(text: &Whole, has: &[bool], height: u32, lows: &[bool], sort: SortId) -> bool
-    requires has { AreLow text.now (length text.now.sorts) has.now }
+fn is_too_low(text: &Whole, has: &[bool], height: u64, lows: &[bool], sort: SortId) -> bool
+    requires has { AreLow text.now (length text.now.sorts + 1) has.now }
     requires lows { AreLow text.now height lows.now }
     ensures { result ≡ is_too_low text.now height sort }
 {
-    let valued = has_low(text, text.sorts.len(), has, sort);
+    let valued = has_value(text, has, sort);
     let low = has_low(text, height, lows, sort);
     valued && !low
 }
 
 /// Whether that is so of some sort.
 #[tactic(auto, using(crate::proofs::TailFacts::high_enough))]
-fn some_too_low(text: &Whole, has: &[bool], height: u32, lows: &[bool]) -> bool
-    requires has { AreLow text.now (length text.now.sorts) has.now }
+fn some_too_low(text: &Whole, has: &[bool], height: u64, lows: &[bool]) -> bool
+    requires has { AreLow text.now (length text.now.sorts + 1) has.now }
     requires lows { AreLow text.now height lows.now }
     ensures { result ≡ some_too_low text.now height 0 (length text.now.sorts) }
 {
@@ -49,7 +49,7 @@ pub(crate) fn seed_fault(
     height: u64,
     count: u64,
 ) -> Result<Option<TypeKind>, NoMemory>
-    requires { AreLow text.now (length text.now.sorts) has.now }
+    requires { AreLow text.now (length text.now.sorts + 1) has.now }
     ensures { IfOk result (λ fault. fault ≡ seed_faults text.now height count) }
 {
     let high = out_of(1, 16, height);
@@ -57,8 +57,8 @@ pub(crate) fn seed_fault(
         return Ok(high);
     }
     let many = out_of(1, 16, count);
-    let lows = lows_at(alloc, text, height as u32)?;
-    let low = some_too_low(text, has, height as u32, lows.as_slice());
+    let lows = lows_at(alloc, text, height)?;
+    let low = some_too_low(text, has, height, lows.as_slice());
     Ok(high.or(many.or(fault_if(low, TypeKind::SettingRange))))
 }
 
