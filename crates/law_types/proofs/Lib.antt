@@ -26,3 +26,4 @@ pub mod HeightSound
 pub mod TailSound
 pub mod TextSound
 pub mod HeightComplete
+pub mod BodyComplete
