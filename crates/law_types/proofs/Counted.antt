@@ -22,7 +22,7 @@ abbrev pub NewFrom : List (List ℕ) → List (List ℕ) → Type 0
 NewFrom before [] = Unit {0}
 NewFrom before (n ∷ names) = (is_some (number_of before n) ≡ false) × NewFrom (before ++ n ∷ []) names
 
-in_numbered : {x : List ℕ} {xs : List (List ℕ)} (from : ℕ) → In x xs → is_some (position_from (same_name x) from xs) ≡ true
+pub in_numbered : {x : List ℕ} {xs : List (List ℕ)} (from : ℕ) → In x xs → is_some (position_from (same_name x) from xs) ≡ true
 in_numbered {x} from (here {xs = xs}) = ap (λ b. is_some (cond b (Some from) (position_from (same_name x) (from + 1) xs))) (same_itself x)
 in_numbered {x} from (there {y = y} {xs = xs} at) = by (same_name x y) refl (in_numbered (from + 1) at)
   where
@@ -149,3 +149,21 @@ pub cons_headed : (k : ℕ) (xs : List Sym) (s : SortId) → constructors_from k
 cons_headed k [] s = refl
 cons_headed k (sym.Con con ∷ xs) s = ap (λ l. if same_sort con.sort s then record { 0 = k } ∷ l else l) (cons_headed (k + 1) xs s)
 cons_headed k (sym.Fun fun ∷ xs) s = cons_headed (k + 1) xs s
+
+-- a list without repetition has all items of a list that is no longer and has its items
+pub pigeons : {A : Type 0} (xs ys : List A) → AreDistinct xs → ((x : A) → In x xs → In x ys) → length ys ≤ length xs → (y : A) → In y ys → In y xs
+pigeons [] [] distinct have few y at = at
+pigeons [] (z ∷ ys) distinct have few y at = absurd (omega arith)
+pigeons {A} (x ∷ xs) ys distinct have few y at =
+    let r = removed (have x here) in
+    let e : length ys ≡ suc (length r.rest) = r.less in
+    let l : length r.rest ≤ length xs = omega arith in
+    by r (pigeons xs r.rest distinct.1 (λ z in_xs. other r z in_xs (r.others z (have z (there in_xs)))) l) (r.others y at)
+  where
+    other : (r : Removed x ys) (z : A) → In z xs → (z ≡ x) ⊎ In z r.rest → In z r.rest
+    other r z in_xs (inl e) = absurd (of_each (λ w. x ≢ w) in_xs distinct.0 (sym e))
+    other r z in_xs (inr h) = h
+
+    by : (r : Removed x ys) → ((z : A) → In z r.rest → In z xs) → (y ≡ x) ⊎ In y r.rest → In y (x ∷ xs)
+    by r rest (inl e) = subst (λ w. In w (x ∷ xs)) (sym e) here
+    by r rest (inr h) = there (rest y h)

@@ -27,3 +27,6 @@ pub mod TailSound
 pub mod TextSound
 pub mod HeightComplete
 pub mod BodyComplete
+pub mod LaidBack
+pub mod DeclaresBack
+pub mod Fine

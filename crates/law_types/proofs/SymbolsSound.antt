@@ -82,7 +82,7 @@ funs_split v [] tail = refl
 funs_split v (r ∷ fs) tail = ap (λ z. fun_line v r ∷ z) (rules_split r.rules (funs_then v fs tail)
     ∙ ap (λ z. rule_lines r.rules ++ z) (funs_split v fs tail) ∙ sym (append_assoc (rule_lines r.rules) (funs_lines v fs) tail))
 
-no_cases : (v : Version) (fs : List FunRow) (tail : List RawLine) → case_names tail ≡ [] → case_names (funs_then v fs tail) ≡ []
+pub no_cases : (v : Version) (fs : List FunRow) (tail : List RawLine) → case_names tail ≡ [] → case_names (funs_then v fs tail) ≡ []
 no_cases v [] tail e = e
 no_cases (first vars width) (r ∷ fs) tail e = refl
 no_cases second (r ∷ fs) tail e = refl
