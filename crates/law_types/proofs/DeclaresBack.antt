@@ -67,7 +67,7 @@ by_places {A} {B} f g d xs n e h =
     same k [] = refl
     same k (y ∷ ys) = ap₂ ◌∷◌ (h k) (same (suc k) ys)
 
-map_map : {A B C : Type 0} (g : B → C) (f : A → B) (xs : List A) → map g (map f xs) ≡ map (λ x. g (f x)) xs
+pub map_map : {A B C : Type 0} (g : B → C) (f : A → B) (xs : List A) → map g (map f xs) ≡ map (λ x. g (f x)) xs
 map_map g f [] = refl
 map_map g f (x ∷ xs) = ap (λ z. g (f x) ∷ z) (map_map g f xs)
 
@@ -119,7 +119,7 @@ module _ (text : Whole) (parts : SigParts) (formed : IsWellFormed parts) (sorts 
   cons_again m [] h = refl
   cons_again m (c ∷ cs) h = ap₂ ◌∷◌ (con_again m c (h c here)) (cons_again m cs (λ x at. h x (there at)))
 
-  blocks_again : (m : ℕ) (ns : List (List ℕ)) → map Some (map headed (con_syms text.sorts m (map (sort_row parts) (nums sort_no m ns))))
+  pub blocks_again : (m : ℕ) (ns : List (List ℕ)) → map Some (map headed (con_syms text.sorts m (map (sort_row parts) (nums sort_no m ns))))
       ≡ map (λ f. option_map headed (symbol_at parts f)) (joined (map (constructors parts) (nums sort_no m ns)))
   blocks_again m [] = refl
   blocks_again m (n ∷ ns) =
@@ -130,7 +130,7 @@ module _ (text : Whole) (parts : SigParts) (formed : IsWellFormed parts) (sorts 
       ∙ ap₂ ◌++◌ (cons_again m cs (λ c at. at)) (blocks_again (suc m) ns)
       ∙ sym (map-append (λ f. option_map headed (symbol_at parts f)) cs (joined (map (constructors parts) (nums sort_no (suc m) ns))))
 
-  funs_again : (v : Version) (k : ℕ) (symbols : List Sym) (rows : List FunRow) (tail : List RawLine)
+  pub funs_again : (v : Version) (k : ℕ) (symbols : List Sym) (rows : List FunRow) (tail : List RawLine)
       → ((i : ℕ) (s : Sym) → slice_get symbols i ≡ Some s → symbol_at parts (record { 0 = k + i }) ≡ Some s) → RowsOf parts k symbols rows
       → map Some (map headed (fun_syms text v rows tail)) ≡ map (λ f. option_map headed (symbol_at parts f)) (functions_from k symbols)
   funs_again v k [] rows tail at h = ap (λ z. map Some (map headed (fun_syms text v z tail))) h
@@ -154,7 +154,7 @@ module _ (text : Whole) (parts : SigParts) (formed : IsWellFormed parts) (sorts 
       later : (i : ℕ) → suc k + i ≡ k + suc i
       later i = omega arith
 
-  somes_same : {A : Type 0} (xs ys : List A) → map Some xs ≡ map Some ys → xs ≡ ys
+  pub somes_same : {A : Type 0} (xs ys : List A) → map Some xs ≡ map Some ys → xs ≡ ys
   somes_same [] [] e = refl
   somes_same [] (y ∷ ys) e = cc
   somes_same (x ∷ xs) [] e = cc

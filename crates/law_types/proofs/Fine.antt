@@ -63,7 +63,7 @@ each_at_or P d [] k h e = e
 each_at_or P d (x ∷ xs) zero h e = h.0
 each_at_or P d (x ∷ xs) (suc k) h e = each_at_or P d xs k h.1 e
 
-not_numbered : (before : List (List ℕ)) (n : List ℕ) → ((k : ℕ) → slice_get before k ≡ Some n → ⊥) → is_some (number_of before n) ≡ false
+pub not_numbered : (before : List (List ℕ)) (n : List ℕ) → ((k : ℕ) → slice_get before k ≡ Some n → ⊥) → is_some (number_of before n) ≡ false
 not_numbered before n h = by (number_of before n) refl
   where
     by : (o : Option ℕ) → number_of before n ≡ o → is_some (number_of before n) ≡ false

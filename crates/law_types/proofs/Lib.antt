@@ -30,3 +30,4 @@ pub mod BodyComplete
 pub mod LaidBack
 pub mod DeclaresBack
 pub mod Fine
+pub mod TextBack

@@ -381,7 +381,7 @@ cons_pools : (seen : Seen) (cs : List ConRow) → (cons_seen seen cs).pools ≡ 
 cons_pools seen [] = refl
 cons_pools seen (c ∷ cs) = cons_pools (after_symbol seen) cs
 
-sorts_pools : (seen : Seen) (ss : List SortRow) → (sorts_seen seen ss).pools ≡ seen.pools
+pub sorts_pools : (seen : Seen) (ss : List SortRow) → (sorts_seen seen ss).pools ≡ seen.pools
 sorts_pools seen [] = refl
 sorts_pools seen (s ∷ ss) = sorts_pools (cons_seen (after_sort seen) s.cons) ss ∙ cons_pools (after_sort seen) s.cons
 
@@ -393,7 +393,7 @@ rules_pools : (seen : Seen) (r : Rules) → (rules_seen seen r).pools ≡ seen.p
 rules_pools seen (single t) = refl
 rules_pools seen (matching n cs) = cases_pools (after_match n seen) cs
 
-funs_pools : (seen : Seen) (fs : List FunRow) → (funs_seen seen fs).pools ≡ seen.pools
+pub funs_pools : (seen : Seen) (fs : List FunRow) → (funs_seen seen fs).pools ≡ seen.pools
 funs_pools seen [] = refl
 funs_pools seen (r ∷ fs) = funs_pools (rules_seen (after_symbol seen) r.rules) fs ∙ rules_pools (after_symbol seen) r.rules
 

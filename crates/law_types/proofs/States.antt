@@ -83,7 +83,7 @@ one_headed text rest None xs ys h e = e
 one_headed text rest (Some (sym.Con con)) xs ys h e = ap₂ ◌∷◌ (sym (h (sym.Con con) refl)) e
 one_headed text rest (Some (sym.Fun fun)) xs ys h e = ap₂ ◌∷◌ (sym (h (sym.Fun fun) refl)) e
 
-headed_symbols : (text : Whole) (before : ℕ) (lines : List RawLine) → symbols_from text.sorts before lines ≡ map headed (stated_symbols text before lines)
+pub headed_symbols : (text : Whole) (before : ℕ) (lines : List RawLine) → symbols_from text.sorts before lines ≡ map headed (stated_symbols text before lines)
 headed_symbols text before [] = refl
 headed_symbols text before (l ∷ lines) = one_headed text lines (declared_in text.sorts before l) (symbols_from text.sorts (sorts_after before (sort_in l)) lines)
     (stated_symbols text (sorts_after before (sort_in l)) lines) (headed_here text.sorts before l) (headed_symbols text (sorts_after before (sort_in l)) lines)
