@@ -8,9 +8,6 @@ pub mod FirstFacts
 pub mod EquationFacts
 pub mod LawFacts
 pub mod Positions
-pub mod ProfileFacts
-pub mod ValueFacts
-pub mod PlainFacts
 pub mod InstanceFacts
 pub mod BothFacts
 pub mod Testing

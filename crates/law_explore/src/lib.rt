@@ -2,7 +2,6 @@
 #![tactic(auto)]
 
 mod background;
-mod constants;
 mod explore;
 mod firsts;
 mod laws;
@@ -11,7 +10,6 @@ mod listed;
 mod refusal;
 mod rows;
 mod schemas;
-mod small;
 mod values;
 mod vectors;
 mod words;
@@ -19,9 +17,8 @@ mod words;
 pub use explore::universe;
 pub use firsts::first_same;
 pub use laws::equations;
-pub use listed::{Listed, law_list, refusal_laws};
+pub use listed::{Listed, plain, refusal_laws};
 pub use refusal::ExploreErr;
-pub use small::plain;
 
 #[cfg(test)]
 mod tests;

@@ -25,7 +25,7 @@ pub struct Listed {
 }
 
 /// The pools of a signature, given or from its seed.
-fn pools_of(alloc: Global, sig: &Sig, bank: &mut ValueBank) -> Result<Pools, ExploreErr>
+pub fn pools_of(alloc: Global, sig: &Sig, bank: &mut ValueBank) -> Result<Pools, ExploreErr>
     requires { assignments sig.now ≤ 4096 }
     ensures pools { IfOk result (λ pools. ArePools sig.now bank.new pools) }
     ensures small { IfOk result (λ pools. HasSmallValues sig.now) }
@@ -64,7 +64,7 @@ impl<'s> Tester<'s> {
 
 /// The law list of a signature, which covers its universe of at most so many terms. Each error but want of memory tells
 /// the first cause that there is.
-pub fn law_list(alloc: Global, sig: &Sig, terms: u64) -> Result<Listed, ExploreErr>
+pub fn plain(alloc: Global, sig: &Sig, terms: u64) -> Result<Listed, ExploreErr>
     ensures listed { IfOk result (λ listed. IsLawListOf sig.now terms listed.pools listed.laws) }
     ensures refused { IfErr result (IsTold sig.now (IsRefusal sig.now terms)) }
 {
