@@ -1,5 +1,5 @@
 -- The lines of a signature show no fault.
-use Rattle.std.proofs.Common.{◌≡◌, ◌≢◌, ℕ, zero, suc, ◌+◌, ◌<◌, ◌≤◌, List, [], ◌∷◌, ◌++◌, ◌⊎◌, inl, inr, map, length, Bool, true, false, true≢false, not, ◌&&◌, ◌||◌, ◌==◌, nat_lt, nat_le, eq-eqb, is_some, Option, Some, None, slice_get, slice_index_or, option_map, rules, arith, add-one, append_assoc, refl, sym, ap, ap₂, ◌∙◌, subst}
+use Rattle.std.proofs.Common.{◌≡◌, ◌≢◌, ℕ, zero, suc, ◌+◌, ◌<◌, ◌≤◌, List, [], ◌∷◌, ◌++◌, ◌⊎◌, inl, inr, map, length, Bool, true, false, true≢false, not, ◌&&◌, ◌||◌, ◌==◌, nat_lt, nat_le, eq-eqb, is_some, Option, Some, None, Err, slice_get, slice_index_or, option_map, rules, arith, add-one, append_assoc, refl, sym, ap, ap₂, ◌∙◌, subst}
 use Rattle.std.specs.Option.{option_or}
 use Rattle.std.proofs.lemmas.List.{length-map, map-append}
 use Rattle.std.proofs.lemmas.Option.{slice_get_within, slice_get-get_or}
@@ -35,7 +35,7 @@ use Rattle.law_types.specs.Naming.{sort_name, symbol_name, raw_term, named_term,
 use Rattle.law_types.specs.Declarations.{sort_id, whole, is_low, has_value, sort_names, symbol_names, symbols_from}
 use Rattle.law_types.specs.Stated.{stated_symbols}
 use Rattle.law_types.specs.TermFaults.{fault_if, mismatch, term_fault}
-use Rattle.law_types.specs.LineFaults.{nothing_seen, after_pool, after_values, out_of, is_too_low, some_too_low, seed_faults, explored_fault, explored_faults, side_scope, value_scope, root_sort, head_sort, name_sort, variable_sort, sort_given, sides_mismatch, background_faults, values_count, pool_faults, is_width, each_value_fault, values_faults, line_fault, case_names, first_fault}
+use Rattle.law_types.specs.LineFaults.{nothing_seen, after_pool, after_values, out_of, is_too_low, some_too_low, seed_faults, explored_fault, explored_faults, side_scope, value_scope, root_sort, head_sort, name_sort, variable_sort, sort_given, sides_mismatch, background_faults, values_count, pool_faults, is_width, each_value_fault, values_faults, line_fault, case_names, faults_from, first_fault, TellsFault}
 use Rattle.law_types.specs.Typed.{Version, FitsVersion, IsTypedAs, StatesNothing, settings_lines, pools_line, sort_ids, sort_block, functions_from, AreNumbered, background_line, values_lines, pools_lines, given_lines}
 use Rattle.law_types.specs.Typed.Version.{first, second, third}
 use Rattle.law_types.specs.declared.errors.TypeErr.{TypeErr}
@@ -458,3 +458,14 @@ module _ (lines : List RawLine) (parts : SigParts) (t : IsTypedAs lines parts) w
 -- with a fault no signature is stated
 pub nothing_stated : (lines : List RawLine) (number : ℕ) (fault : TypeKind) → first_fault lines ≡ Some (err.At number fault) → StatesNothing lines (err.At number fault)
 nothing_stated lines number fault e parts t = none_is (err.At number fault) (sym (back lines parts t) ∙ e)
+
+-- what an error of going through the lines says of the text
+pub tells_first : (lines : List RawLine) (text : Whole) → text ≡ whole lines → (e : TypeErr)
+    → TellsFault {A = Unit {0}} (Err e) (faults_from text nothing_seen 1 lines) → TellsFault {A = Unit {0}} (Err e) (first_fault lines)
+tells_first lines text is (err.At number fault) h = sym (ap (λ t. faults_from t nothing_seen 1 lines) is) ∙ h
+tells_first lines text is err.NoMemory h = tt
+
+pub tells_nothing : (lines : List RawLine) (text : Whole) → text ≡ whole lines → (e : TypeErr)
+    → TellsFault {A = Unit {0}} (Err e) (faults_from text nothing_seen 1 lines) → StatesNothing lines e
+tells_nothing lines text is (err.At number fault) h = nothing_stated lines number fault (sym (ap (λ t. faults_from t nothing_seen 1 lines) is) ∙ h)
+tells_nothing lines text is err.NoMemory h = tt

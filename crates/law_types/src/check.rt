@@ -149,18 +149,17 @@ fn prepare(alloc: Global, lines: &[RawLine]) -> Result<Prepared, NoMemory>
     Ok(Prepared { text, has, rows })
 }
 
-/// Whether no line of a text shows a fault; else the first that does, with its first fault.
+/// Whether no line of a text shows a fault; else the first that does, with its first fault, and no signature is stated.
 pub fn check_lines(alloc: Global, lines: &[RawLine]) -> Result<(), TypeErr>
-    ensures { TellsFault result (first_fault lines.now) }
+    ensures first { TellsFault result (first_fault lines.now) }
+    ensures nothing { IfErr result (λ e. StatesNothing lines.now e) }
 {
     let prepared = prepare(alloc, lines)?;
-    walk(
-        alloc,
-        &prepared.text,
-        prepared.has.as_slice(),
-        prepared.rows.as_slice(),
-        lines,
-    )
+    let (text, has, rows) = (&prepared.text, &prepared.has, &prepared.rows);
+    if let Err(e) = walk(alloc, text, has.as_slice(), rows.as_slice(), lines) {
+        return Err(e);
+    }
+    Ok(())
 }
 
 /// The signature that the lines of a text without faults state.
@@ -177,7 +176,7 @@ fn build_stated(
 {
     let Prepared { text, has: _, rows } = prepared;
     let parts = stated(alloc, text, rows.as_slice(), lines)?;
-    Sig::build(alloc, parts)
+    Ok(Sig::build(alloc, parts)?)
 }
 
 /// The signature that a text states; else the first line that shows a fault, with its first fault, and no signature is

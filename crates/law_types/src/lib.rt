@@ -10,7 +10,6 @@ mod lines;
 mod names;
 mod naming;
 mod pools;
-mod probe;
 mod scope;
 mod seen;
 mod stated;
