@@ -175,13 +175,15 @@ rows_at parts m [] e v w = tt
 rows_at parts m (s ∷ ss) e v w =
     let a = dropped parts.sort_names m s.name (map (λ (s : SortRow). s.name) ss) e in
     let b = dropped parts.settings.vars m s.vars (map (λ (s : SortRow). s.vars) ss) v in
-    let c = dropped parts.settings.width m s.width (map (λ (s : SortRow). s.width) ss) w in
-    (record {
-      name_is = get_or_from_slice_get parts.sort_names m s.name [] a.0;
-      vars_is = get_or_from_slice_get parts.settings.vars m s.vars 0 b.0;
-      width_is = get_or_from_slice_get parts.settings.width m s.width 1 c.0;
-      within = slice_get_within parts.sort_names m s.name a.0;
-    }, rows_at parts (suc m) ss a.1 b.1 c.1)
+    let c = dropped parts.settings.width m s.width (map (λ (s : SortRow). s.width) ss) w in (
+      record {
+        name_is = get_or_from_slice_get parts.sort_names m s.name [] a.0;
+        vars_is = get_or_from_slice_get parts.settings.vars m s.vars 0 b.0;
+        width_is = get_or_from_slice_get parts.settings.width m s.width 1 c.0;
+        within = slice_get_within parts.sort_names m s.name a.0;
+      },
+      rows_at parts (suc m) ss a.1 b.1 c.1,
+    )
 
 pub rows_placed : (text : Whole) (parts : SigParts) (l : Layout) → States text parts l → RowsAt parts 0 l.sorts
 rows_placed text parts l s = rows_at parts 0 l.sorts (sym s.declares.sorts ∙ s.sorts) s.vars s.width
@@ -253,12 +255,13 @@ blocks_at text parts v fs tail m k (s ∷ ss) h =
     let F = fun_syms text v fs tail in
     let split : (n : ℕ) → constructors_from k ((map (con_sym text.sorts m) s.cons ++ con_syms text.sorts (suc m) ss) ++ F) (record { 0 = n })
     ≡ constructors_from k (map (con_sym text.sorts m) s.cons ++ (con_syms text.sorts (suc m) ss ++ F)) (record { 0 = n }) =
-    λ n. ap (λ z. constructors_from k z (record { 0 = n })) (append_assoc (map (con_sym text.sorts m) s.cons) (con_syms text.sorts (suc m) ss) F) in
-    (h m (omega arith) ∙ split m ∙ own_block text.sorts m k s.cons (con_syms text.sorts (suc m) ss ++ F)
-    ∙ ap (λ z. nums sym_no k s.cons ++ z) (later_blocks text v fs tail m (suc m) (past k s.cons) ss (omega arith)) ∙ append-nil (nums sym_no k s.cons),
-    blocks_at text parts v fs tail (suc m) (past k s.cons) ss
-    (λ n l. let low : m ≤ n = omega arith in h n low ∙ split n
-    ∙ other_block text.sorts m n k s.cons (con_syms text.sorts (suc m) ss ++ F) (λ e. let w : suc m ≤ m = subst (λ z. suc m ≤ z) (sym e) l in absurd (omega arith))))
+    λ n. ap (λ z. constructors_from k z (record { 0 = n })) (append_assoc (map (con_sym text.sorts m) s.cons) (con_syms text.sorts (suc m) ss) F) in (
+      h m (omega arith) ∙ split m ∙ own_block text.sorts m k s.cons (con_syms text.sorts (suc m) ss ++ F)
+          ∙ ap (λ z. nums sym_no k s.cons ++ z) (later_blocks text v fs tail m (suc m) (past k s.cons) ss (omega arith)) ∙ append-nil (nums sym_no k s.cons),
+      blocks_at text parts v fs tail (suc m) (past k s.cons) ss
+          (λ n l. let low : m ≤ n = omega arith in h n low ∙ split n
+          ∙ other_block text.sorts m n k s.cons (con_syms text.sorts (suc m) ss ++ F) (λ e. let w : suc m ≤ m = subst (λ z. suc m ≤ z) (sym e) l in absurd (omega arith))),
+    )
 
 pub blocks_placed : (text : Whole) (parts : SigParts) (l : Layout) → States text parts l → BlocksAt parts 0 0 l.sorts
 blocks_placed text parts l s = blocks_at text parts l.version l.funs (tail_lines l) 0 0 l.sorts (λ n low. ap (λ z. constructors_from 0 z (record { 0 = n })) s.symbols)

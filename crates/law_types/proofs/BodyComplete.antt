@@ -62,9 +62,10 @@ node_none text parts scope fields wanted f symbol declares formed declared e =
     let within : f.0 < length parts.symbol_names = subst (λ n. f.0 < n) (sym formed.one_name_each) (slice_get_within parts.symbols f.0 symbol declared) in
     let number : number_of text.names (symbol_name parts f) ≡ Some f.0 =
     ap (λ names. number_of names (symbol_name parts f)) declares.names ∙ number_again parts.symbol_names f.0 formed.symbol_names.distinct within in
-    let found : slice_get text.symbols f.0 ≡ Some (headed symbol) = in_text text parts declares f.0 symbol declared in
-    (ap (name_faults text scope fields wanted) number ∙ ap (symbol_faults scope f.0 fields wanted) found ∙ e,
-    ap (λ o. wanted_of (symbol_of text o)) number ∙ ap wanted_of found ∙ headed_args symbol)
+    let found : slice_get text.symbols f.0 ≡ Some (headed symbol) = in_text text parts declares f.0 symbol declared in (
+      ap (name_faults text scope fields wanted) number ∙ ap (symbol_faults scope f.0 fields wanted) found ∙ e,
+      ap (λ o. wanted_of (symbol_of text o)) number ∙ ap wanted_of found ∙ headed_args symbol,
+    )
 
 -- Parts of a body
 
@@ -151,113 +152,112 @@ and_right false = refl
 module _ (text : Whole) (parts : SigParts) (declares : Declares text parts) (formed : IsWellFormed parts) (k : ℕ) (fun : Fun)
     (owns : slice_get parts.symbols k ≡ Some (sym.Fun fun)) (place : Option ℕ) (fields : List SortId)
   where
+    scope : Scope
+    scope = scope_at k place fields fun.args
 
-  scope : Scope
-  scope = scope_at k place fields fun.args
+    symbol_ok : (f : SymId) (ts : List Body) (wanted : Option SortId) (sort : SortId) (symbol : Sym) → result_of symbol ≡ sort → HaveParts (map (part_of (parts) (scope_at k place fields fun.args)) ts) (args_of symbol)
+        → mismatch wanted sort ≡ None → (is_function (Some symbol) && nat_lt k f.0) ≡ false
+        → ((f.0 == k) && not (falls place (map (part_of parts (scope_at k place fields fun.args)) ts))) ≡ false
+        → symbol_faults (scope_at k place fields fun.args) f.0 (map is_field_term (map (named_body parts) ts)) wanted (Some (headed symbol)) ≡ None
+    symbol_ok f ts wanted sort symbol result args fits later falling =
+        let sc = scope_at k place fields fun.args in
+        let count : length (map is_field_term (map (named_body parts) ts)) ≡ length (args_of (headed symbol)) =
+        length-map (map (named_body parts) ts) is_field_term ∙ length-map ts (named_body parts) ∙ sym (length-map ts (part_of parts sc))
+        ∙ parts_count (map (part_of parts sc) ts) (args_of symbol) args ∙ ap length (sym (headed_args symbol)) in
+        let fun_same : is_function (Some (headed symbol)) ≡ is_function (Some symbol) = headed_fun symbol in
+        both_none (fault_if (is_function (Some (headed symbol)) && nat_lt k f.0) kind.LaterCall) _
+        (no_fault _ kind.LaterCall (ap (λ c. c && nat_lt k f.0) fun_same ∙ later))
+        (both_none (fault_if (not (length (map is_field_term (map (named_body parts) ts)) == length (args_of (headed symbol)))) kind.Arity) _
+        (no_fault _ kind.Arity (ap not (eq-eqb _ _ count)))
+        (both_none (mismatch wanted (result_of (headed symbol))) _ (ap (mismatch wanted) (headed_result symbol ∙ result) ∙ fits)
+        (no_fault _ kind.NotSmaller (ap (λ c. (f.0 == k) && not c) (sym (falls_same place (map (part_of parts sc) ts) ∙ ap (falls_at place) (fields_same parts sc ts))) ∙ falling))))
+      where
+        headed_fun : (s : Sym) → is_function (Some (headed s)) ≡ is_function (Some s)
+        headed_fun (sym.Con con) = refl
+        headed_fun (sym.Fun g) = refl
 
-  symbol_ok : (f : SymId) (ts : List Body) (wanted : Option SortId) (sort : SortId) (symbol : Sym) → result_of symbol ≡ sort → HaveParts (map (part_of (parts) (scope_at k place fields fun.args)) ts) (args_of symbol)
-      → mismatch wanted sort ≡ None → (is_function (Some symbol) && nat_lt k f.0) ≡ false
-      → ((f.0 == k) && not (falls place (map (part_of parts (scope_at k place fields fun.args)) ts))) ≡ false
-      → symbol_faults (scope_at k place fields fun.args) f.0 (map is_field_term (map (named_body parts) ts)) wanted (Some (headed symbol)) ≡ None
-  symbol_ok f ts wanted sort symbol result args fits later falling =
-      let sc = scope_at k place fields fun.args in
-      let count : length (map is_field_term (map (named_body parts) ts)) ≡ length (args_of (headed symbol)) =
-      length-map (map (named_body parts) ts) is_field_term ∙ length-map ts (named_body parts) ∙ sym (length-map ts (part_of parts sc))
-      ∙ parts_count (map (part_of parts sc) ts) (args_of symbol) args ∙ ap length (sym (headed_args symbol)) in
-      let fun_same : is_function (Some (headed symbol)) ≡ is_function (Some symbol) = headed_fun symbol in
-      both_none (fault_if (is_function (Some (headed symbol)) && nat_lt k f.0) kind.LaterCall) _
-      (no_fault _ kind.LaterCall (ap (λ c. c && nat_lt k f.0) fun_same ∙ later))
-      (both_none (fault_if (not (length (map is_field_term (map (named_body parts) ts)) == length (args_of (headed symbol)))) kind.Arity) _
-      (no_fault _ kind.Arity (ap not (eq-eqb _ _ count)))
-      (both_none (mismatch wanted (result_of (headed symbol))) _ (ap (mismatch wanted) (headed_result symbol ∙ result) ∙ fits)
-      (no_fault _ kind.NotSmaller (ap (λ c. (f.0 == k) && not c) (sym (falls_same place (map (part_of parts sc) ts) ∙ ap (falls_at place) (fields_same parts sc ts))) ∙ falling))))
-    where
-      headed_fun : (s : Sym) → is_function (Some (headed s)) ≡ is_function (Some s)
-      headed_fun (sym.Con con) = refl
-      headed_fun (sym.Fun g) = refl
+    pub over_passes : (f : SymId) (ts : List Body) (wanted : Option SortId) (sort : SortId) → Each (Passes text parts (scope_at k place fields fun.args)) ts
+        → Over (symbol_at parts f) (map (part_of parts (scope_at k place fields fun.args)) ts) sort → mismatch wanted sort ≡ None
+        → ((s : Sym) → symbol_at parts f ≡ Some s → (is_function (Some s) && nat_lt k f.0) ≡ false)
+        → ((f.0 == k) && not (falls place (map (part_of parts (scope_at k place fields fun.args)) ts))) ≡ false
+        → term_fault text (scope_at k place fields fun.args) wanted (raw_term (head.Name (symbol_name parts f)) (map (named_body parts) ts)) ≡ None
+    over_passes f ts wanted sort have o fits later falling =
+        let sc = scope_at k place fields fun.args in
+        let terms = map (named_body parts) ts in
+        let n = node_none text parts sc (map is_field_term terms) wanted f o.symbol declares formed o.declared
+        (symbol_ok f ts wanted sort o.symbol o.result o.args fits (later o.symbol o.declared) falling) in
+        term_raw text sc wanted (head.Name (symbol_name parts f)) terms
+        ∙ both_none (node_faults text sc (map is_field_term terms) wanted (head.Name (symbol_name parts f)))
+        (args_fault text sc (wanted_of (head_symbol text (head.Name (symbol_name parts f)))) terms) n.0
+        (ap (λ l. args_fault text sc l terms) n.1 ∙ args_pass text parts sc ts (args_of o.symbol) have o.args)
 
-  pub over_passes : (f : SymId) (ts : List Body) (wanted : Option SortId) (sort : SortId) → Each (Passes text parts (scope_at k place fields fun.args)) ts
-      → Over (symbol_at parts f) (map (part_of parts (scope_at k place fields fun.args)) ts) sort → mismatch wanted sort ≡ None
-      → ((s : Sym) → symbol_at parts f ≡ Some s → (is_function (Some s) && nat_lt k f.0) ≡ false)
-      → ((f.0 == k) && not (falls place (map (part_of parts (scope_at k place fields fun.args)) ts))) ≡ false
-      → term_fault text (scope_at k place fields fun.args) wanted (raw_term (head.Name (symbol_name parts f)) (map (named_body parts) ts)) ≡ None
-  over_passes f ts wanted sort have o fits later falling =
-      let sc = scope_at k place fields fun.args in
-      let terms = map (named_body parts) ts in
-      let n = node_none text parts sc (map is_field_term terms) wanted f o.symbol declares formed o.declared
-      (symbol_ok f ts wanted sort o.symbol o.result o.args fits (later o.symbol o.declared) falling) in
-      term_raw text sc wanted (head.Name (symbol_name parts f)) terms
-      ∙ both_none (node_faults text sc (map is_field_term terms) wanted (head.Name (symbol_name parts f)))
-      (args_fault text sc (wanted_of (head_symbol text (head.Name (symbol_name parts f)))) terms) n.0
-      (ap (λ l. args_fault text sc l terms) n.1 ∙ args_pass text parts sc ts (args_of o.symbol) have o.args)
+    atom_passes : (h : RawHead) (o : Option SortId) (wanted : Option SortId) (sort : SortId) → o ≡ Some sort → mismatch wanted sort ≡ None
+        → node_faults text (scope_at k place fields fun.args) [] wanted h ≡ atom_faults 0 wanted o → wanted_of (head_symbol text h) ≡ []
+        → term_fault text (scope_at k place fields fun.args) wanted (raw_term h []) ≡ None
+    atom_passes h o wanted sort e fits is none =
+        let sc = scope_at k place fields fun.args in
+        term_raw text sc wanted h [] ∙ both_none (node_faults text sc [] wanted h) (args_fault text sc (wanted_of (head_symbol text h)) [])
+        (is ∙ ap (atom_faults 0 wanted) e ∙ fits) (ap (λ l. args_fault text sc l []) none)
 
-  atom_passes : (h : RawHead) (o : Option SortId) (wanted : Option SortId) (sort : SortId) → o ≡ Some sort → mismatch wanted sort ≡ None
-      → node_faults text (scope_at k place fields fun.args) [] wanted h ≡ atom_faults 0 wanted o → wanted_of (head_symbol text h) ≡ []
-      → term_fault text (scope_at k place fields fun.args) wanted (raw_term h []) ≡ None
-  atom_passes h o wanted sort e fits is none =
-      let sc = scope_at k place fields fun.args in
-      term_raw text sc wanted h [] ∙ both_none (node_faults text sc [] wanted h) (args_fault text sc (wanted_of (head_symbol text h)) [])
-      (is ∙ ap (atom_faults 0 wanted) e ∙ fits) (ap (λ l. args_fault text sc l []) none)
+    -- the function at work is no constructor
+    not_own : (f : SymId) → is_constructor (symbol_at parts f) ≡ true → (f.0 == k) ≡ false
+    not_own f e = by (f.0 == k) refl
+      where
+        by : (c : Bool) → (f.0 == k) ≡ c → (f.0 == k) ≡ false
+        by false h = h
+        by true h = absurd (true≢false (sym e ∙ ap (λ n. is_constructor (slice_get parts.symbols n)) (eqb-true f.0 k h) ∙ ap is_constructor owns))
 
-  -- the function at work is no constructor
-  not_own : (f : SymId) → is_constructor (symbol_at parts f) ≡ true → (f.0 == k) ≡ false
-  not_own f e = by (f.0 == k) refl
-    where
-      by : (c : Bool) → (f.0 == k) ≡ c → (f.0 == k) ≡ false
-      by false h = h
-      by true h = absurd (true≢false (sym e ∙ ap (λ n. is_constructor (slice_get parts.symbols n)) (eqb-true f.0 k h) ∙ ap is_constructor owns))
+    con_no_fun : (f : SymId) → is_constructor (symbol_at parts f) ≡ true → (s : Sym) → symbol_at parts f ≡ Some s → is_function (Some s) ≡ false
+    con_no_fun f e (sym.Con con) d = refl
+    con_no_fun f e (sym.Fun g) d = absurd (true≢false (sym e ∙ ap is_constructor d))
 
-  con_no_fun : (f : SymId) → is_constructor (symbol_at parts f) ≡ true → (s : Sym) → symbol_at parts f ≡ Some s → is_function (Some s) ≡ false
-  con_no_fun f e (sym.Con con) d = refl
-  con_no_fun f e (sym.Fun g) d = absurd (true≢false (sym e ∙ ap is_constructor d))
+    -- a call that is allowed is not of a later function, and falls where it is of the function itself
+    not_later : (n : ℕ) (c : Bool) → (nat_lt n k || ((n == k) && c)) ≡ true → (nat_lt k n ≡ false) × (((n == k) && not c) ≡ false)
+    not_later n c e = by (nat_lt n k) refl e
+      where
+        by : (d : Bool) → nat_lt n k ≡ d → (d || ((n == k) && c)) ≡ true → (nat_lt k n ≡ false) × (((n == k) && not c) ≡ false)
+        by true h q =
+            let low : n < k = search (rules, h) in
+            let after : nat_lt k n ≡ false = search (rules, low) in
+            let other : (n == k) ≡ false = apart (n == k) refl low in
+            (after, ap (λ z. z && not c) other)
+          where
+            apart : (d : Bool) → (n == k) ≡ d → n < k → (n == k) ≡ false
+            apart false s l = s
+            apart true s l = let same : n ≡ k = eqb-true n k s in absurd (omega arith)
+        by false h q =
+            let p = both_true (n == k) c q in
+            let same : n ≡ k = eqb-true n k p.0 in
+            let low : n ≤ k = omega arith in
+            let after : nat_lt k n ≡ false = search (rules, low) in
+            (after, ap (λ z. (n == k) && not z) p.1 ∙ and_right (n == k))
 
-  -- a call that is allowed is not of a later function, and falls where it is of the function itself
-  not_later : (n : ℕ) (c : Bool) → (nat_lt n k || ((n == k) && c)) ≡ true → (nat_lt k n ≡ false) × (((n == k) && not c) ≡ false)
-  not_later n c e = by (nat_lt n k) refl e
-    where
-      by : (d : Bool) → nat_lt n k ≡ d → (d || ((n == k) && c)) ≡ true → (nat_lt k n ≡ false) × (((n == k) && not c) ≡ false)
-      by true h q =
-          let low : n < k = search (rules, h) in
-          let after : nat_lt k n ≡ false = search (rules, low) in
-          let other : (n == k) ≡ false = apart (n == k) refl low in
-          (after, ap (λ z. z && not c) other)
-        where
-          apart : (d : Bool) → (n == k) ≡ d → n < k → (n == k) ≡ false
-          apart false s l = s
-          apart true s l = let same : n ≡ k = eqb-true n k s in absurd (omega arith)
-      by false h q =
-          let p = both_true (n == k) c q in
-          let same : n ≡ k = eqb-true n k p.0 in
-          let low : n ≤ k = omega arith in
-          let after : nat_lt k n ≡ false = search (rules, low) in
-          (after, ap (λ z. (n == k) && not z) p.1 ∙ and_right (n == k))
-
-  pub body_passes : (t : Body) → Passes text parts (scope_at k place fields fun.args) t
-  body_passes = body_induct (Passes text parts (scope_at k place fields fun.args))
-      (λ t n e wanted sort is fits.
-          ap (term_fault text (scope_at k place fields fun.args) wanted) (body_fold RawTerm (name_body_step parts) t (b.Field n) e)
-          ∙ atom_passes (head.Field n) (slice_get fields n) wanted sort
-          (sym (ap (λ (p : Part). p.sort) (body_fold Part (part_step parts (formed_scope (scope_at k place fields fun.args))) t (b.Field n) e)) ∙ is) fits refl refl)
-      (λ t n e wanted sort is fits.
-          ap (term_fault text (scope_at k place fields fun.args) wanted) (body_fold RawTerm (name_body_step parts) t (b.Param n) e)
-          ∙ atom_passes (head.Param n) (slice_get fun.args n) wanted sort
-          (sym (ap (λ (p : Part). p.sort) (body_fold Part (part_step parts (formed_scope (scope_at k place fields fun.args))) t (b.Param n) e)) ∙ is) fits refl refl)
-      (λ t f args e have wanted sort is fits.
-          let sc = scope_at k place fields fun.args in
-          let w = where_found (is_constructor (symbol_at parts f)) (sort_over (symbol_at parts f) (map (λ (p : Part). p.sort) (map (part_of parts sc) args))) sort
-          (sym (ap (λ (p : Part). p.sort) (body_fold Part (part_step parts (formed_scope sc)) t (b.Make f args) e)) ∙ is) in
-          ap (term_fault text sc wanted) (body_fold RawTerm (name_body_step parts) t (b.Make f args) e)
-          ∙ over_passes f args wanted sort have (over_found (symbol_at parts f) (map (part_of parts sc) args) sort w.1) fits
-          (λ s d. ap (λ c. c && nat_lt k f.0) (con_no_fun f w.0 s d)) (ap (λ c. c && not (falls place (map (part_of parts sc) args))) (not_own f w.0)))
-      (λ t f args e have wanted sort is fits.
-          let sc = scope_at k place fields fun.args in
-          let ps = map (part_of parts sc) args in
-          let w = where_found (is_function (symbol_at parts f) && may_call (formed_scope sc) f ps) (sort_over (symbol_at parts f) (map (λ (p : Part). p.sort) ps)) sort
-          (sym (ap (λ (p : Part). p.sort) (body_fold Part (part_step parts (formed_scope sc)) t (b.Call f args) e)) ∙ is) in
-          let c = not_later f.0 (falls place ps) (both_true (is_function (symbol_at parts f)) (may_call (formed_scope sc) f ps) w.0).1 in
-          ap (term_fault text sc wanted) (body_fold RawTerm (name_body_step parts) t (b.Call f args) e)
-          ∙ over_passes f args wanted sort have (over_found (symbol_at parts f) ps sort w.1) fits
-          (λ s d. ap (λ z. is_function (Some s) && z) c.0 ∙ and_right (is_function (Some s))) c.1)
+    pub body_passes : (t : Body) → Passes text parts (scope_at k place fields fun.args) t
+    body_passes = body_induct (Passes text parts (scope_at k place fields fun.args))
+        (λ t n e wanted sort is fits.
+        ap (term_fault text (scope_at k place fields fun.args) wanted) (body_fold RawTerm (name_body_step parts) t (b.Field n) e)
+        ∙ atom_passes (head.Field n) (slice_get fields n) wanted sort
+        (sym (ap (λ (p : Part). p.sort) (body_fold Part (part_step parts (formed_scope (scope_at k place fields fun.args))) t (b.Field n) e)) ∙ is) fits refl refl)
+        (λ t n e wanted sort is fits.
+        ap (term_fault text (scope_at k place fields fun.args) wanted) (body_fold RawTerm (name_body_step parts) t (b.Param n) e)
+        ∙ atom_passes (head.Param n) (slice_get fun.args n) wanted sort
+        (sym (ap (λ (p : Part). p.sort) (body_fold Part (part_step parts (formed_scope (scope_at k place fields fun.args))) t (b.Param n) e)) ∙ is) fits refl refl)
+        (λ t f args e have wanted sort is fits.
+        let sc = scope_at k place fields fun.args in
+        let w = where_found (is_constructor (symbol_at parts f)) (sort_over (symbol_at parts f) (map (λ (p : Part). p.sort) (map (part_of parts sc) args))) sort
+        (sym (ap (λ (p : Part). p.sort) (body_fold Part (part_step parts (formed_scope sc)) t (b.Make f args) e)) ∙ is) in
+        ap (term_fault text sc wanted) (body_fold RawTerm (name_body_step parts) t (b.Make f args) e)
+        ∙ over_passes f args wanted sort have (over_found (symbol_at parts f) (map (part_of parts sc) args) sort w.1) fits
+        (λ s d. ap (λ c. c && nat_lt k f.0) (con_no_fun f w.0 s d)) (ap (λ c. c && not (falls place (map (part_of parts sc) args))) (not_own f w.0)))
+        (λ t f args e have wanted sort is fits.
+        let sc = scope_at k place fields fun.args in
+        let ps = map (part_of parts sc) args in
+        let w = where_found (is_function (symbol_at parts f) && may_call (formed_scope sc) f ps) (sort_over (symbol_at parts f) (map (λ (p : Part). p.sort) ps)) sort
+        (sym (ap (λ (p : Part). p.sort) (body_fold Part (part_step parts (formed_scope sc)) t (b.Call f args) e)) ∙ is) in
+        let c = not_later f.0 (falls place ps) (both_true (is_function (symbol_at parts f)) (may_call (formed_scope sc) f ps) w.0).1 in
+        ap (term_fault text sc wanted) (body_fold RawTerm (name_body_step parts) t (b.Call f args) e)
+        ∙ over_passes f args wanted sort have (over_found (symbol_at parts f) ps sort w.1) fits
+        (λ s d. ap (λ z. is_function (Some s) && z) c.0 ∙ and_right (is_function (Some s))) c.1)
 
 -- Values
 

@@ -88,7 +88,6 @@ fun_names_back parts k (sym.Fun fun ∷ symbols) (r ∷ rows) h = ap₂ ◌∷�
 -- Names of sorts to numbers
 
 module _ (text : Whole) (parts : SigParts) (formed : IsWellFormed parts) (sorts : text.sorts ≡ parts.sort_names) where
-
   pub sort_again : (s : SortId) → IsDeclared parts s → sort_id text.sorts (sort_name parts s) ≡ s
   sort_again s declared =
       let within : s.0 < length parts.sort_names = search (rules, declared) in

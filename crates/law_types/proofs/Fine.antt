@@ -71,7 +71,6 @@ not_numbered before n h = by (number_of before n) refl
     by (Some k) e = absurd (h k (stands_at before n k e))
 
 module _ (text : Whole) (parts : SigParts) (formed : IsWellFormed parts) (declares : Declares text parts) where
-
   number_is : (f : ℕ) → f < length parts.symbols → number_of text.names (symbol_name parts (record { 0 = f })) ≡ Some f
   number_is f l =
       let within : f < length parts.symbol_names = subst (λ n. f < n) (sym formed.one_name_each) l in
@@ -125,10 +124,11 @@ module _ (text : Whole) (parts : SigParts) (formed : IsWellFormed parts) (declar
       → Counts seen.symbols (cs ++ more) → NoFaults text (cons_seen seen (map (con_row parts) cs)) rest → NoFaults text seen (cons_then v (map (con_row parts) cs) rest)
   cons_fine v seen [] more rest has counts h = h
   cons_fine v seen (c ∷ cs) more rest has counts h =
-      let s = has c here in
-      (con_fine v seen (cons_then v (map (con_row parts) cs) rest) c s.0 s.1 counts.0,
-      subst (λ z. NoFaults text z (cons_then v (map (con_row parts) cs) rest)) (sym (seen_con v seen c))
-      (cons_fine v (after_symbol seen) cs more rest (λ x at. has x (there at)) counts.1 h))
+      let s = has c here in (
+        con_fine v seen (cons_then v (map (con_row parts) cs) rest) c s.0 s.1 counts.0,
+        subst (λ z. NoFaults text z (cons_then v (map (con_row parts) cs) rest)) (sym (seen_con v seen c))
+            (cons_fine v (after_symbol seen) cs more rest (λ x at. has x (there at)) counts.1 h),
+      )
 
   pub counts_after : (seen : Seen) (cs more : List SymId) → Counts seen.symbols (cs ++ more) → Counts (cons_seen seen (map (con_row parts) cs)).symbols more
   counts_after seen [] more h = h
@@ -198,11 +198,12 @@ module _ (text : Whole) (parts : SigParts) (formed : IsWellFormed parts) (declar
       let after = cons_seen (after_sort seen) (map (con_row parts) cs) in
       let behind = sorts_then v (map (sort_row parts) (nums sort_no (suc m) ns)) rest in
       let next : suc m ≡ after.sorts = more_sorts m seen.sorts k ∙ sym (cons_sorts (after_sort seen) (map (con_row parts) cs)) in
-      let less : suc m + length ns ≤ length parts.sort_names = omega arith in
-      (sort_fine v seen (cons_then v (map (con_row parts) cs) behind) m declared k,
-      subst (λ z. NoFaults text z (cons_then v (map (con_row parts) cs) behind)) (sym (seen_sort v seen s))
-      (cons_fine v (after_sort seen) cs (others ++ more) behind (con_has s) split
-      (sorts_fine v after (suc m) ns more rest next less (counts_after (after_sort seen) cs (others ++ more) split) h)))
+      let less : suc m + length ns ≤ length parts.sort_names = omega arith in (
+        sort_fine v seen (cons_then v (map (con_row parts) cs) behind) m declared k,
+        subst (λ z. NoFaults text z (cons_then v (map (con_row parts) cs) behind)) (sym (seen_sort v seen s))
+            (cons_fine v (after_sort seen) cs (others ++ more) behind (con_has s) split
+            (sorts_fine v after (suc m) ns more rest next less (counts_after (after_sort seen) cs (others ++ more) split) h)),
+      )
     where
       more_sorts : (a c : ℕ) → a ≡ c → suc a ≡ c + 1
       more_sorts a c e = omega arith
@@ -225,7 +226,7 @@ module _ (text : Whole) (parts : SigParts) (formed : IsWellFormed parts) (declar
   body_none seen k fun place fields body declared own at is =
       let symbol : own_symbol text seen ≡ Some (headed (sym.Fun fun)) = ap (slice_get text.symbols) own ∙ in_text text parts declares k (sym.Fun fun) declared in
       ap₂ (λ o p. term_fault text (record { standing = Rattle.law_types.specs.declared.scope.Standing.TheVariants.Body; owner = o; place = p; fields = fields; params = wanted_of (own_symbol text seen) })
-          (sort_given (own_symbol text seen)) (named_body parts body)) own at
+      (sort_given (own_symbol text seen)) (named_body parts body)) own at
       ∙ ap (λ q. term_fault text (scope_at k place fields (wanted_of q)) (sort_given q) (named_body parts body)) symbol
       ∙ body_passes text parts declares formed k fun declared place fields body (Some fun.result) fun.result is.sorted (same fun.result)
     where
@@ -248,102 +249,104 @@ module _ (text : Whole) (parts : SigParts) (formed : IsWellFormed parts) (declar
       (at_place : slice_get fun.args place ≡ Some sort) (of : CasesOf parts (constructors parts sort) fun.cases cs)
       (are : AreCases parts (λ fields body. IsBody parts (formed_at k (Some place) fields fun.args) fun.result body) (constructors parts sort) fun.cases)
     where
+      -- no name stands twice: else the other names would be too few
+      no_twice : (before after : List (List ℕ)) (n : List ℕ) → con_names cs ≡ before ++ n ∷ after → is_some (number_of before n) ≡ false
+      no_twice before after n e = not_numbered before n twice
+        where
+          less : (xs ys : List (List ℕ)) → length (xs ++ n ∷ ys) ≡ suc (length (xs ++ ys))
+          less [] ys = refl
+          less (x ∷ xs) ys = ap suc (less xs ys)
 
-    -- no name stands twice: else the other names would be too few
-    no_twice : (before after : List (List ℕ)) (n : List ℕ) → con_names cs ≡ before ++ n ∷ after → is_some (number_of before n) ≡ false
-    no_twice before after n e = not_numbered before n twice
-      where
-        less : (xs ys : List (List ℕ)) → length (xs ++ n ∷ ys) ≡ suc (length (xs ++ ys))
-        less [] ys = refl
-        less (x ∷ xs) ys = ap suc (less xs ys)
+          still : (m : List ℕ) → In m (before ++ n ∷ after) → (j : ℕ) → slice_get before j ≡ Some n → In m (before ++ after)
+          still m at j g = by (in_split before (n ∷ after) at)
+            where
+              rest : (m ≡ n) ⊎ In m after → In m (before ++ after)
+              rest (inl q) = subst (λ z. In z (before ++ after)) (sym q) (in_left after (in_at before j n g))
+              rest (inr q) = in_right before q
 
-        still : (m : List ℕ) → In m (before ++ n ∷ after) → (j : ℕ) → slice_get before j ≡ Some n → In m (before ++ after)
-        still m at j g = by (in_split before (n ∷ after) at)
-          where
-            rest : (m ≡ n) ⊎ In m after → In m (before ++ after)
-            rest (inl q) = subst (λ z. In z (before ++ after)) (sym q) (in_left after (in_at before j n g))
-            rest (inr q) = in_right before q
+              by : In m before ⊎ In m (n ∷ after) → In m (before ++ after)
+              by (inl q) = in_left after q
+              by (inr q) = rest (Rattle.law_laws.proofs.ListFacts.in_rest q)
 
-            by : In m before ⊎ In m (n ∷ after) → In m (before ++ after)
-            by (inl q) = in_left after q
-            by (inr q) = rest (Rattle.law_laws.proofs.ListFacts.in_rest q)
+          from_map : (xs : List SymId) (name : List ℕ) → In name (map (symbol_name parts) xs) → (c : SymId) × In c xs × (name ≡ symbol_name parts c)
+          from_map [] name at = in_none at
+          from_map (x ∷ xs) name at = pick (Rattle.law_laws.proofs.ListFacts.in_rest at) (from_map xs name)
+            where
+              pick : (name ≡ symbol_name parts x) ⊎ In name (map (symbol_name parts) xs) → (In name (map (symbol_name parts) xs) → (c : SymId) × In c xs × (name ≡ symbol_name parts c))
+                  → (c : SymId) × In c (x ∷ xs) × (name ≡ symbol_name parts c)
+              pick (inl q) r = (x, here, q)
+              pick (inr q) r = let f = r q in (f.0, there f.1, f.2)
 
-        from_map : (xs : List SymId) (name : List ℕ) → In name (map (symbol_name parts) xs) → (c : SymId) × In c xs × (name ≡ symbol_name parts c)
-        from_map [] name at = in_none at
-        from_map (x ∷ xs) name at = pick (Rattle.law_laws.proofs.ListFacts.in_rest at) (from_map xs name)
-          where
-            pick : (name ≡ symbol_name parts x) ⊎ In name (map (symbol_name parts) xs) → (In name (map (symbol_name parts) xs) → (c : SymId) × In c xs × (name ≡ symbol_name parts c))
-                → (c : SymId) × In c (x ∷ xs) × (name ≡ symbol_name parts c)
-            pick (inl q) r = (x, here, q)
-            pick (inr q) r = let f = r q in (f.0, there f.1, f.2)
+          twice : (j : ℕ) → slice_get before j ≡ Some n → ⊥
+          twice j g =
+              let l : length (map (symbol_name parts) (constructors parts sort)) ≤ length (before ++ after) =
+              no_longer (map (symbol_name parts) (constructors parts sort)) (before ++ after) (names_apart parts formed sort)
+              (λ name at. let c = from_map (constructors parts sort) name at in
+              still name (subst (λ z. In name z) e (subst (λ z. In z (con_names cs)) (sym c.2) (of.all c.0 c.1))) j g) in
+              let a : length (con_names cs) ≡ suc (length (before ++ after)) = ap length e ∙ less before after in
+              let b : length (con_names cs) ≡ length cs = Rattle.std.proofs.lemmas.List.length-map cs (λ (c : CaseRow). c.con) in
+              let d : length (map (symbol_name parts) (constructors parts sort)) ≡ length (constructors parts sort) = Rattle.std.proofs.lemmas.List.length-map (constructors parts sort) (symbol_name parts) in
+              let q = of.count in omega arith
 
-        twice : (j : ℕ) → slice_get before j ≡ Some n → ⊥
-        twice j g =
-            let l : length (map (symbol_name parts) (constructors parts sort)) ≤ length (before ++ after) =
-            no_longer (map (symbol_name parts) (constructors parts sort)) (before ++ after) (names_apart parts formed sort)
-            (λ name at. let c = from_map (constructors parts sort) name at in
-            still name (subst (λ z. In name z) e (subst (λ z. In z (con_names cs)) (sym c.2) (of.all c.0 c.1))) j g) in
-            let a : length (con_names cs) ≡ suc (length (before ++ after)) = ap length e ∙ less before after in
-            let b : length (con_names cs) ≡ length cs = Rattle.std.proofs.lemmas.List.length-map cs (λ (c : CaseRow). c.con) in
-            let d : length (map (symbol_name parts) (constructors parts sort)) ≡ length (constructors parts sort) = Rattle.std.proofs.lemmas.List.length-map (constructors parts sort) (symbol_name parts) in
-            let q = of.count in omega arith
+      case_fine : (seen : Seen) (c : CaseRow) → owner seen ≡ k → seen.place ≡ Some place → is_some (number_of seen.cases c.con) ≡ false
+          → CaseOf parts (constructors parts sort) fun.cases c → case_faults text seen c.con c.body (number_of text.names c.con) ≡ None
+      case_fine seen c own at new o =
+          let i = cons_of 0 parts.symbols sort o.con (in_at (constructors parts sort) o.place o.con o.con_at) in
+          let plain : 0 + i.place ≡ i.place = omega arith in
+          let con_at : symbol_at parts o.con ≡ Some (sym.Con i.con) = ap (λ (z : SymId). slice_get parts.symbols z.0) i.is ∙ ap (slice_get parts.symbols) plain ∙ i.at in
+          let within : o.con.0 < length parts.symbols = slice_get_within parts.symbols o.con.0 (sym.Con i.con) con_at in
+          let number : number_of text.names c.con ≡ Some o.con.0 = ap (number_of text.names) o.con_is ∙ number_is o.con.0 within in
+          let found : slice_get text.symbols o.con.0 ≡ Some (sym.Con i.con) = in_text text parts declares o.con.0 (sym.Con i.con) con_at in
+          let symbol : own_symbol text seen ≡ Some (headed (sym.Fun fun)) = ap (slice_get text.symbols) own ∙ in_text text parts declares k (sym.Fun fun) declared in
+          let matched_is : matched text seen ≡ Some sort = ap₂ (λ p q. sort_at p (wanted_of q)) at symbol ∙ at_place in
+          let body : IsBody parts (formed_at k (Some place) i.con.args fun.args) fun.result o.body =
+          subst (λ z. IsCase (λ fields body. IsBody parts (formed_at k (Some place) fields fun.args) fun.result body) z o.body) con_at
+          (case_at (λ fields body. IsBody parts (formed_at k (Some place) fields fun.args) fun.result body) (constructors parts sort) fun.cases are o.place o.con o.body o.con_at o.body_at) in
+          ap (case_faults text seen c.con c.body) number ∙ ap (symbol_case_faults text seen c.con c.body o.con.0) found
+          ∙ both_none (wrong_case (matched text seen) (sym.Con i.con)) _
+          (ap (λ z. wrong_case z (sym.Con i.con)) matched_is ∙ no_fault _ (kind.SortMismatch sort i.con.sort) (ap not (turned i.con.sort sort i.of)))
+          (both_none (fault_if (is_some (number_of seen.cases c.con)) kind.CaseTwice) _ (no_fault _ kind.CaseTwice new)
+          (ap (body_fault text seen i.con.args) o.body_is ∙ body_none seen k fun (Some place) i.con.args o.body declared own at body))
+        where
+          turned : (a c : SortId) → same_sort a c ≡ true → same_sort c a ≡ true
+          turned a c e = let h : a.0 ≡ c.0 = Rattle.std.proofs.Common.eqb-true a.0 c.0 e in Rattle.std.proofs.Common.eq-eqb c.0 a.0 (sym h)
 
-    case_fine : (seen : Seen) (c : CaseRow) → owner seen ≡ k → seen.place ≡ Some place → is_some (number_of seen.cases c.con) ≡ false
-        → CaseOf parts (constructors parts sort) fun.cases c → case_faults text seen c.con c.body (number_of text.names c.con) ≡ None
-    case_fine seen c own at new o =
-        let i = cons_of 0 parts.symbols sort o.con (in_at (constructors parts sort) o.place o.con o.con_at) in
-        let plain : 0 + i.place ≡ i.place = omega arith in
-        let con_at : symbol_at parts o.con ≡ Some (sym.Con i.con) = ap (λ (z : SymId). slice_get parts.symbols z.0) i.is ∙ ap (slice_get parts.symbols) plain ∙ i.at in
-        let within : o.con.0 < length parts.symbols = slice_get_within parts.symbols o.con.0 (sym.Con i.con) con_at in
-        let number : number_of text.names c.con ≡ Some o.con.0 = ap (number_of text.names) o.con_is ∙ number_is o.con.0 within in
-        let found : slice_get text.symbols o.con.0 ≡ Some (sym.Con i.con) = in_text text parts declares o.con.0 (sym.Con i.con) con_at in
-        let symbol : own_symbol text seen ≡ Some (headed (sym.Fun fun)) = ap (slice_get text.symbols) own ∙ in_text text parts declares k (sym.Fun fun) declared in
-        let matched_is : matched text seen ≡ Some sort = ap₂ (λ p q. sort_at p (wanted_of q)) at symbol ∙ at_place in
-        let body : IsBody parts (formed_at k (Some place) i.con.args fun.args) fun.result o.body =
-        subst (λ z. IsCase (λ fields body. IsBody parts (formed_at k (Some place) fields fun.args) fun.result body) z o.body) con_at
-        (case_at (λ fields body. IsBody parts (formed_at k (Some place) fields fun.args) fun.result body) (constructors parts sort) fun.cases are o.place o.con o.body o.con_at o.body_at) in
-        ap (case_faults text seen c.con c.body) number ∙ ap (symbol_case_faults text seen c.con c.body o.con.0) found
-        ∙ both_none (wrong_case (matched text seen) (sym.Con i.con)) _
-        (ap (λ z. wrong_case z (sym.Con i.con)) matched_is ∙ no_fault _ (kind.SortMismatch sort i.con.sort) (ap not (turned i.con.sort sort i.of)))
-        (both_none (fault_if (is_some (number_of seen.cases c.con)) kind.CaseTwice) _ (no_fault _ kind.CaseTwice new)
-        (ap (body_fault text seen i.con.args) o.body_is ∙ body_none seen k fun (Some place) i.con.args o.body declared own at body))
-      where
-        turned : (a c : SortId) → same_sort a c ≡ true → same_sort c a ≡ true
-        turned a c e = let h : a.0 ≡ c.0 = Rattle.std.proofs.Common.eqb-true a.0 c.0 e in Rattle.std.proofs.Common.eq-eqb c.0 a.0 (sym h)
+      cases_fine : (seen : Seen) (before : List (List ℕ)) (rows : List CaseRow) (rest : List RawLine) → con_names cs ≡ before ++ con_names rows → seen.cases ≡ before → owner seen ≡ k
+          → seen.place ≡ Some place → Each (CaseOf parts (constructors parts sort) fun.cases) rows → NoFaults text (cases_seen seen rows) rest → NoFaults text seen (cases_then rows rest)
+      cases_fine seen before [] rest e b own at each h = h
+      cases_fine seen before (c ∷ rows) rest e b own at each h = (
+        case_fine seen c own at (ap (λ z. is_some (number_of z c.con)) b ∙ no_twice before (con_names rows) c.con e) each.0,
+        cases_fine (after_case c.con seen) (before ++ c.con ∷ []) rows rest (e ∙ sym (append_assoc before (c.con ∷ []) (con_names rows))) (ap (λ z. z ++ c.con ∷ []) b) own at each.1 h,
+      )
 
-    cases_fine : (seen : Seen) (before : List (List ℕ)) (rows : List CaseRow) (rest : List RawLine) → con_names cs ≡ before ++ con_names rows → seen.cases ≡ before → owner seen ≡ k
-        → seen.place ≡ Some place → Each (CaseOf parts (constructors parts sort) fun.cases) rows → NoFaults text (cases_seen seen rows) rest → NoFaults text seen (cases_then rows rest)
-    cases_fine seen before [] rest e b own at each h = h
-    cases_fine seen before (c ∷ rows) rest e b own at each h =
-        (case_fine seen c own at (ap (λ z. is_some (number_of z c.con)) b ∙ no_twice before (con_names rows) c.con e) each.0,
-        cases_fine (after_case c.con seen) (before ++ c.con ∷ []) rows rest (e ∙ sym (append_assoc before (c.con ∷ []) (con_names rows))) (ap (λ z. z ++ c.con ∷ []) b) own at each.1 h)
+      complete : (rest : List RawLine) → case_names rest ≡ [] → (xs : List SymId) → ((c : SymId) → In c xs → In c (constructors parts sort))
+          → list_all (has_case text (case_names (cases_then cs rest))) xs ≡ true
+      complete rest none [] h = refl
+      complete rest none (c ∷ xs) h =
+          let s = con_has sort c (h c here) in
+          let within : c.0 < length parts.symbol_names = subst (λ n. c.0 < n) (sym formed.one_name_each) (slice_get_within parts.symbols c.0 s.0 s.1) in
+          let named : slice_get text.names c.0 ≡ Some (symbol_name parts c) = ap (λ l. slice_get l c.0) declares.names ∙ slice_get-get_or parts.symbol_names c.0 [] within in
+          ap₂ ◌&&◌ (ap₂ is_case (names_are cs rest none) named ∙ in_numbered 0 (of.all c (h c here))) (complete rest none xs (λ x at. h x (there at)))
 
-    complete : (rest : List RawLine) → case_names rest ≡ [] → (xs : List SymId) → ((c : SymId) → In c xs → In c (constructors parts sort))
-        → list_all (has_case text (case_names (cases_then cs rest))) xs ≡ true
-    complete rest none [] h = refl
-    complete rest none (c ∷ xs) h =
-        let s = con_has sort c (h c here) in
-        let within : c.0 < length parts.symbol_names = subst (λ n. c.0 < n) (sym formed.one_name_each) (slice_get_within parts.symbols c.0 s.0 s.1) in
-        let named : slice_get text.names c.0 ≡ Some (symbol_name parts c) = ap (λ l. slice_get l c.0) declares.names ∙ slice_get-get_or parts.symbol_names c.0 [] within in
-        ap₂ ◌&&◌ (ap₂ is_case (names_are cs rest none) named ∙ in_numbered 0 (of.all c (h c here))) (complete rest none xs (λ x at. h x (there at)))
-
-    match_fine : (seen : Seen) (rest : List RawLine) → case_names rest ≡ [] → owner seen ≡ k
-        → match_faults text (case_names (cases_then cs rest)) (slice_get (wanted_of (own_symbol text seen)) place) ≡ None
-    match_fine seen rest none own =
-        let symbol : own_symbol text seen ≡ Some (headed (sym.Fun fun)) = ap (slice_get text.symbols) own ∙ in_text text parts declares k (sym.Fun fun) declared in
-        let cons : constructors_from 0 text.symbols sort ≡ constructors parts sort = ap (λ l. constructors_from 0 l sort) declares.symbols ∙ cons_headed 0 parts.symbols sort in
-        ap (λ q. match_faults text (case_names (cases_then cs rest)) (slice_get (wanted_of q) place)) symbol
-        ∙ ap (match_faults text (case_names (cases_then cs rest))) at_place
-        ∙ no_fault _ kind.CaseMissing (ap not (ap (list_all (has_case text (case_names (cases_then cs rest)))) cons ∙ complete rest none (constructors parts sort) (λ c at. at)))
+      match_fine : (seen : Seen) (rest : List RawLine) → case_names rest ≡ [] → owner seen ≡ k
+          → match_faults text (case_names (cases_then cs rest)) (slice_get (wanted_of (own_symbol text seen)) place) ≡ None
+      match_fine seen rest none own =
+          let symbol : own_symbol text seen ≡ Some (headed (sym.Fun fun)) = ap (slice_get text.symbols) own ∙ in_text text parts declares k (sym.Fun fun) declared in
+          let cons : constructors_from 0 text.symbols sort ≡ constructors parts sort = ap (λ l. constructors_from 0 l sort) declares.symbols ∙ cons_headed 0 parts.symbols sort in
+          ap (λ q. match_faults text (case_names (cases_then cs rest)) (slice_get (wanted_of q) place)) symbol
+          ∙ ap (match_faults text (case_names (cases_then cs rest))) at_place
+          ∙ no_fault _ kind.CaseMissing (ap not (ap (list_all (has_case text (case_names (cases_then cs rest)))) cons ∙ complete rest none (constructors parts sort) (λ c at. at)))
 
   rules_fine : (seen : Seen) (k : ℕ) (fun : Fun) (place : Option ℕ) (r : Rules) (rest : List RawLine) → symbol_at parts (record { 0 = k }) ≡ Some (sym.Fun fun)
       → FitsPlace parts (record { 0 = k }) fun place → RulesOf parts fun place r → owner seen ≡ k → seen.place ≡ None → case_names rest ≡ []
       → NoFaults text (rules_seen seen r) rest → NoFaults text seen (rules_then r rest)
   rules_fine seen k fun None (single t) rest declared fits of own start none h =
       let b = of.0 in
-      let same : fits.0 ≡ b = one_item fits.0 b (sym fits.1 ∙ of.1) in
-      (ap (body_fault text seen []) of.2 ∙ body_none seen k fun None [] b declared own start
-      (subst (IsBody parts (formed_at k None [] fun.args) fun.result) same fits.2), h)
+      let same : fits.0 ≡ b = one_item fits.0 b (sym fits.1 ∙ of.1) in (
+        ap (body_fault text seen []) of.2 ∙ body_none seen k fun None [] b declared own start
+            (subst (IsBody parts (formed_at k None [] fun.args) fun.result) same fits.2),
+        h,
+      )
     where
       one_item : (x y : Body) → x ∷ [] ≡ y ∷ [] → x ≡ y
       one_item x y e = cc
@@ -352,10 +355,11 @@ module _ (text : Whole) (parts : SigParts) (formed : IsWellFormed parts) (declar
   rules_fine seen k fun (Some place) (matching n cs) rest declared fits of own start none h =
       let same : fits.0 ≡ of.0 = some_is fits.0 of.0 (sym fits.1 ∙ of.2) in
       let are : AreCases parts (λ fields body. IsBody parts (formed_at k (Some place) fields fun.args) fun.result body) (constructors parts of.0) fun.cases =
-      subst (λ s. AreCases parts (λ fields body. IsBody parts (formed_at k (Some place) fields fun.args) fun.result body) (constructors parts s) fun.cases) same fits.2 in
-      (ap (λ m. match_faults text (case_names (cases_then cs rest)) (slice_get (wanted_of (own_symbol text seen)) m)) of.1
-      ∙ match_fine k fun place of.0 cs declared of.2 of.3 are seen rest none own,
-      cases_fine k fun place of.0 cs declared of.2 of.3 are (after_match n seen) [] cs rest refl refl own (ap Some of.1) of.3.each h)
+      subst (λ s. AreCases parts (λ fields body. IsBody parts (formed_at k (Some place) fields fun.args) fun.result body) (constructors parts s) fun.cases) same fits.2 in (
+        ap (λ m. match_faults text (case_names (cases_then cs rest)) (slice_get (wanted_of (own_symbol text seen)) m)) of.1
+            ∙ match_fine k fun place of.0 cs declared of.2 of.3 are seen rest none own,
+        cases_fine k fun place of.0 cs declared of.2 of.3 are (after_match n seen) [] cs rest refl refl own (ap Some of.1) of.3.each h,
+      )
 
   fun_fine : (v : Version) (seen : Seen) (rest : List RawLine) (k : ℕ) (fun : Fun) (r : FunRow) → symbol_at parts (record { 0 = k }) ≡ Some (sym.Fun fun) → FunOf parts k fun r
       → k ≡ seen.symbols → line_fault text seen rest (fun_line v r) ≡ None
@@ -393,12 +397,13 @@ module _ (text : Whole) (parts : SigParts) (formed : IsWellFormed parts) (declar
       let declared : symbol_at parts (record { 0 = k }) ≡ Some (sym.Fun fun) = ap (λ n. symbol_at parts (record { 0 = n })) plain ∙ at 0 (sym.Fun fun) refl in
       let s = formed.symbols (record { 0 = k }) (sym.Fun fun) declared in
       let own : owner (after_symbol seen) ≡ k = less_one seen.symbols counts.0 in
-      let rest = funs_then v rows tail in
-      (fun_fine v seen (rules_then r.rules rest) k fun r declared of.0 counts.0,
-      subst (λ z. NoFaults text z (rules_then r.rules rest)) (sym (seen_fun v seen r))
-      (rules_fine (after_symbol seen) k fun fun.place r.rules rest declared s.bodies of.0.rules own refl (no_cases v rows tail none)
-      (funs_fine v (rules_seen (after_symbol seen) r.rules) (suc k) symbols rows tail (λ i s e. ap (λ n. symbol_at parts (record { 0 = n })) (later i) ∙ at (suc i) s e) of.1
-      (subst (λ n. Counts n (functions_from (suc k) symbols)) (sym (rules_symbols (after_symbol seen) r.rules)) counts.1) none h)))
+      let rest = funs_then v rows tail in (
+        fun_fine v seen (rules_then r.rules rest) k fun r declared of.0 counts.0,
+        subst (λ z. NoFaults text z (rules_then r.rules rest)) (sym (seen_fun v seen r))
+            (rules_fine (after_symbol seen) k fun fun.place r.rules rest declared s.bodies of.0.rules own refl (no_cases v rows tail none)
+            (funs_fine v (rules_seen (after_symbol seen) r.rules) (suc k) symbols rows tail (λ i s e. ap (λ n. symbol_at parts (record { 0 = n })) (later i) ∙ at (suc i) s e) of.1
+            (subst (λ n. Counts n (functions_from (suc k) symbols)) (sym (rules_symbols (after_symbol seen) r.rules)) counts.1) none h)),
+      )
     where
       plain : k ≡ k + 0
       plain = omega arith

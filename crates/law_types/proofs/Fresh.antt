@@ -58,9 +58,10 @@ each_by_place P (x ∷ xs) h = (h zero x refl, each_by_place P xs (λ j y e. h (
 
 pub distinct_places : {A : Type 0} (xs : List A) → ((i j : ℕ) (x y : A) → i < j → slice_get xs i ≡ Some x → slice_get xs j ≡ Some y → x ≢ y) → AreDistinct xs
 distinct_places [] h = tt
-distinct_places (x ∷ xs) h =
-    (each_by_place (λ y. x ≢ y) xs (λ j y e. h zero (suc j) x y (omega arith) refl e),
-    distinct_places xs (λ i j a b l e k. let m : suc i < suc j = omega arith in h (suc i) (suc j) a b m e k))
+distinct_places (x ∷ xs) h = (
+  each_by_place (λ y. x ≢ y) xs (λ j y e. h zero (suc j) x y (omega arith) refl e),
+  distinct_places xs (λ i j a b l e k. let m : suc i < suc j = omega arith in h (suc i) (suc j) a b m e k),
+)
 
 pub fresh_distinct : (limit : ℕ) (names : List (List ℕ)) → FreshFrom limit names 0 names → AreDistinct names
 fresh_distinct limit names h = distinct_places names apart
@@ -78,8 +79,11 @@ fresh_distinct limit names h = distinct_places names apart
 
 fresh_sort : (text : Whole) (seen : Seen) (ss : List SortRow) → SortsGood text seen ss → FreshFrom 64 text.sorts seen.sorts (map (λ (s : SortRow). s.name) ss)
 fresh_sort text seen [] h = tt
-fresh_sort text seen (s ∷ ss) h = (h.0.low, h.0.fresh,
-    subst (λ k. FreshFrom 64 text.sorts k (map (λ (s : SortRow). s.name) ss)) (cons_sorts (after_sort seen) s.cons) (fresh_sort text (cons_seen (after_sort seen) s.cons) ss h.2))
+fresh_sort text seen (s ∷ ss) h = (
+  h.0.low,
+  h.0.fresh,
+  subst (λ k. FreshFrom 64 text.sorts k (map (λ (s : SortRow). s.name) ss)) (cons_sorts (after_sort seen) s.cons) (fresh_sort text (cons_seen (after_sort seen) s.cons) ss h.2),
+)
   where
     cons_sorts : (seen : Seen) (cs : List ConRow) → (cons_seen seen cs).sorts ≡ seen.sorts
     cons_sorts seen [] = refl
@@ -114,9 +118,12 @@ rules_symbols seen (matching n cs) = cases_symbols (after_match n seen) cs
 funs_fresh : (text : Whole) (v : Version) (seen : Seen) (fs : List FunRow) (tail : List RawLine) → FunsGood text v seen fs tail
     → FreshFrom Limit text.names seen.symbols (map (λ (r : FunRow). r.name) fs)
 funs_fresh text v seen [] tail h = tt
-funs_fresh text v seen (r ∷ fs) tail h = (h.0.name.low, h.0.name.fresh,
-    subst (λ k. FreshFrom Limit text.names k (map (λ (r : FunRow). r.name) fs)) (rules_symbols (after_symbol seen) r.rules)
-    (funs_fresh text v (rules_seen (after_symbol seen) r.rules) fs tail h.2))
+funs_fresh text v seen (r ∷ fs) tail h = (
+  h.0.name.low,
+  h.0.name.fresh,
+  subst (λ k. FreshFrom Limit text.names k (map (λ (r : FunRow). r.name) fs)) (rules_symbols (after_symbol seen) r.rules)
+      (funs_fresh text v (rules_seen (after_symbol seen) r.rules) fs tail h.2),
+)
 
 pub fresh_names : (text : Whole) (v : Version) (seen : Seen) (ss : List SortRow) (fs : List FunRow) (tail : List RawLine) → seen.symbols ≡ 0 → SortsGood text seen ss
     → FunsGood text v (sorts_seen seen ss) fs tail → FreshFrom 4294967295 text.names 0 (per_con (λ c. c.name) ss ++ map (λ (r : FunRow). r.name) fs)

@@ -176,18 +176,48 @@ symbol_names_are (l ∷ lines) = added_is (symbol_in l) (symbol_names lines) ∙
 
 sort_names_brief : IsBrief sort_name_of
 sort_names_brief = record {
-  quiet = record { head = refl; head2 = refl; head3 = refl; vars = λ n. refl; size = λ n. refl; width = λ n. refl; budget = λ n. refl; pairs = λ n. refl;
-    given_line = refl; seed_line = λ s h c. refl; match_line = λ n. refl; body_line = λ t. refl; case_line = λ c t. refl; pool_line = refl;
-    values_line = λ s v. refl; end_line = refl };
+  quiet = record {
+    head = refl;
+    head2 = refl;
+    head3 = refl;
+    vars = λ n. refl;
+    size = λ n. refl;
+    width = λ n. refl;
+    budget = λ n. refl;
+    pairs = λ n. refl;
+    given_line = refl;
+    seed_line = λ s h c. refl;
+    match_line = λ n. refl;
+    body_line = λ t. refl;
+    case_line = λ c t. refl;
+    pool_line = refl;
+    values_line = λ s v. refl;
+    end_line = refl;
+  };
   explore = λ n. refl;
   sides = λ l r. refl;
 }
 
 symbol_names_brief : IsBrief symbol_name_of
 symbol_names_brief = record {
-  quiet = record { head = refl; head2 = refl; head3 = refl; vars = λ n. refl; size = λ n. refl; width = λ n. refl; budget = λ n. refl; pairs = λ n. refl;
-    given_line = refl; seed_line = λ s h c. refl; match_line = λ n. refl; body_line = λ t. refl; case_line = λ c t. refl; pool_line = refl;
-    values_line = λ s v. refl; end_line = refl };
+  quiet = record {
+    head = refl;
+    head2 = refl;
+    head3 = refl;
+    vars = λ n. refl;
+    size = λ n. refl;
+    width = λ n. refl;
+    budget = λ n. refl;
+    pairs = λ n. refl;
+    given_line = refl;
+    seed_line = λ s h c. refl;
+    match_line = λ n. refl;
+    body_line = λ t. refl;
+    case_line = λ c t. refl;
+    pool_line = refl;
+    values_line = λ s v. refl;
+    end_line = refl;
+  };
   explore = λ n. refl;
   sides = λ l r. refl;
 }

@@ -213,9 +213,11 @@ low_args text parts (t ∷ ts) (s ∷ sorts) have sorted made =
     let a = have.0 s b.0 sorted.0 in
     let r = low_args text parts ts sorts have.1 sorted.1 b.1 in
     let left : a.0 ≤ a.0 + r.0 = omega arith in
-    let right : r.0 ≤ a.0 + r.0 = omega arith in
-    (a.0 + r.0, ap₂ ◌&&◌ (low_at_least text a.0 (a.0 + r.0) s left a.1)
-    (implied (is_low text r.0) (is_low text (a.0 + r.0)) (λ z h. low_at_least text r.0 (a.0 + r.0) z right h) sorts r.1))
+    let right : r.0 ≤ a.0 + r.0 = omega arith in (
+      a.0 + r.0,
+      ap₂ ◌&&◌ (low_at_least text a.0 (a.0 + r.0) s left a.1)
+          (implied (is_low text r.0) (is_low text (a.0 + r.0)) (λ z h. low_at_least text r.0 (a.0 + r.0) z right h) sorts r.1),
+    )
 
 con_is : (o : Option Sym) (s : Sym) → o ≡ Some s → is_constructor o ≡ true → (con : Con) × (s ≡ sym.Con con)
 con_is o (sym.Con con) e h = (con, refl)

@@ -84,39 +84,40 @@ all_values text parts n each (s ∷ sorts) declared e =
 module _ (text : Whole) (parts : SigParts) (declares : Declares text parts)
     (symbols : (f : SymId) (symbol : Sym) → symbol_at parts f ≡ Some symbol → IsSymbol parts f symbol)
   where
+    args_declared : (number : ℕ) (con : Con) → slice_get parts.symbols number ≡ Some (sym.Con con) → Each (IsDeclared parts) con.args
+    args_declared number con e = let s = symbols (record { 0 = number }) (sym.Con con) e in s.args_declared
 
-  args_declared : (number : ℕ) (con : Con) → slice_get parts.symbols number ≡ Some (sym.Con con) → Each (IsDeclared parts) con.args
-  args_declared number con e = let s = symbols (record { 0 = number }) (sym.Con con) e in s.args_declared
+    zero_low : (sort : SortId) → is_low text zero sort ≡ true → {G : Type 0} → G
+    unfolding is_low
+    zero_low sort e = absurd (true≢false (sym e))
 
-  zero_low : (sort : SortId) → is_low text zero sort ≡ true → {G : Type 0} → G
-  unfolding is_low
-  zero_low sort e = absurd (true≢false (sym e))
+    pub low_value : (n : ℕ) (sort : SortId) → IsDeclared parts sort → is_low text n sort ≡ true → HasValue parts sort
+    low_value zero sort declared e = zero_low sort e
+    low_value (suc n) sort declared e =
+        let c = low_con text parts n sort declares declared e in
+        let vs = all_values text parts n (low_value n) c.con.args (args_declared c.number c.con c.declared) c.low in
+        let f : SymId = record { 0 = c.number } in (
+          App f vs.values,
+          record {
+            made = fold-App Bool (value_step parts) f vs.values ∙ ap₂ ◌&&◌ (ap is_constructor c.declared) vs.made;
+            sorted = app_sorted parts f vs.values sort (record { symbol = sym.Con c.con; declared = c.declared; result = same_sort_is c.con.sort sort c.of; sorts = vs.sorted });
+          },
+        )
 
-  pub low_value : (n : ℕ) (sort : SortId) → IsDeclared parts sort → is_low text n sort ≡ true → HasValue parts sort
-  low_value zero sort declared e = zero_low sort e
-  low_value (suc n) sort declared e =
-      let c = low_con text parts n sort declares declared e in
-      let vs = all_values text parts n (low_value n) c.con.args (args_declared c.number c.con c.declared) c.low in
-      let f : SymId = record { 0 = c.number } in
-      (App f vs.values, record {
-        made = fold-App Bool (value_step parts) f vs.values ∙ ap₂ ◌&&◌ (ap is_constructor c.declared) vs.made;
-        sorted = app_sorted parts f vs.values sort (record { symbol = sym.Con c.con; declared = c.declared; result = same_sort_is c.con.sort sort c.of; sorts = vs.sorted });
-      })
+    all_within : (n : ℕ) → ((sort : SortId) → IsDeclared parts sort → is_low text n sort ≡ true → is_within_height parts n sort ≡ true)
+        → (sorts : List SortId) → Each (IsDeclared parts) sorts → list_all (is_low text n) sorts ≡ true → list_all (is_within_height parts n) sorts ≡ true
+    all_within n each [] declared e = refl
+    all_within n each (s ∷ sorts) declared e =
+        let b = both_true (is_low text n s) (list_all (is_low text n) sorts) e in
+        ap₂ ◌&&◌ (each s declared.0 b.0) (all_within n each sorts declared.1 b.1)
 
-  all_within : (n : ℕ) → ((sort : SortId) → IsDeclared parts sort → is_low text n sort ≡ true → is_within_height parts n sort ≡ true)
-      → (sorts : List SortId) → Each (IsDeclared parts) sorts → list_all (is_low text n) sorts ≡ true → list_all (is_within_height parts n) sorts ≡ true
-  all_within n each [] declared e = refl
-  all_within n each (s ∷ sorts) declared e =
-      let b = both_true (is_low text n s) (list_all (is_low text n) sorts) e in
-      ap₂ ◌&&◌ (each s declared.0 b.0) (all_within n each sorts declared.1 b.1)
+    within_suc : (n : ℕ) (sort : SortId) → list_any (makes_from (is_within_height parts n) sort) parts.symbols ≡ true → is_within_height parts (suc n) sort ≡ true
+    unfolding is_within_height
+    within_suc n sort e = e
 
-  within_suc : (n : ℕ) (sort : SortId) → list_any (makes_from (is_within_height parts n) sort) parts.symbols ≡ true → is_within_height parts (suc n) sort ≡ true
-  unfolding is_within_height
-  within_suc n sort e = e
-
-  pub low_within : (n : ℕ) (sort : SortId) → IsDeclared parts sort → is_low text n sort ≡ true → is_within_height parts n sort ≡ true
-  low_within zero sort declared e = zero_low sort e
-  low_within (suc n) sort declared e =
-      let c = low_con text parts n sort declares declared e in
-      within_suc n sort (any_here (makes_from (is_within_height parts n) sort) parts.symbols c.number (sym.Con c.con) c.declared
-      (ap₂ ◌&&◌ c.of (all_within n (low_within n) c.con.args (args_declared c.number c.con c.declared) c.low)))
+    pub low_within : (n : ℕ) (sort : SortId) → IsDeclared parts sort → is_low text n sort ≡ true → is_within_height parts n sort ≡ true
+    low_within zero sort declared e = zero_low sort e
+    low_within (suc n) sort declared e =
+        let c = low_con text parts n sort declares declared e in
+        within_suc n sort (any_here (makes_from (is_within_height parts n) sort) parts.symbols c.number (sym.Con c.con) c.declared
+        (ap₂ ◌&&◌ c.of (all_within n (low_within n) c.con.args (args_declared c.number c.con c.declared) c.low)))

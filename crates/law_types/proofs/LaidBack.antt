@@ -270,8 +270,13 @@ pub record FunsBack (v : Version) (parts : SigParts) (k : ℕ) (symbols : List S
   pub fits : Each (FitsFun v) rows
 
 fun_same : (v : Version) (parts : SigParts) (k : ℕ) (fun : Fun) (rules : Rules) → typed.fun_line v parts (record { 0 = k }) fun
-    ≡ fun_line v (record { weight = weight_at parts (record { 0 = k }); name = symbol_name parts (record { 0 = k }); args = arg_names parts (record { 0 = k });
-      result = sort_name parts fun.result; rules = rules })
+    ≡ fun_line v (record {
+      weight = weight_at parts (record { 0 = k });
+      name = symbol_name parts (record { 0 = k });
+      args = arg_names parts (record { 0 = k });
+      result = sort_name parts fun.result;
+      rules = rules;
+    })
 fun_same (first vars width) parts k fun rules = refl
 fun_same second parts k fun rules = refl
 fun_same third parts k fun rules = refl
@@ -292,8 +297,13 @@ funs_back v parts formed fits k (sym.Fun fun ∷ symbols) lines at are =
     let rules = rules_back parts formed (record { 0 = k }) fun fun.place are.0 symbol.bodies are.3 in
     let r = funs_back v parts formed fits (suc k) symbols are.1 (λ i s e. ap (λ n. symbol_at parts (record { 0 = n })) (later i) ∙ at (suc i) s e) are.4 in
     record {
-      rows = record { weight = weight_at parts (record { 0 = k }); name = symbol_name parts (record { 0 = k }); args = arg_names parts (record { 0 = k });
-        result = sort_name parts fun.result; rules = rules.rules } ∷ r.rows;
+      rows = record {
+        weight = weight_at parts (record { 0 = k });
+        name = symbol_name parts (record { 0 = k });
+        args = arg_names parts (record { 0 = k });
+        result = sort_name parts fun.result;
+        rules = rules.rules;
+      } ∷ r.rows;
       is = λ tail. ap (λ z. z ++ tail) are.2 ∙ ap₂ ◌∷◌ (fun_same v parts k fun rules.rules)
           (append_assoc are.0 are.1 tail ∙ ap₂ ◌++◌ rules.is (r.is tail) ∙ sym (rules_split rules.rules (funs_then v r.rows tail)));
       of = (record { name = refl; args = refl; result = refl; weight = refl; rules = rules.of }, r.of);

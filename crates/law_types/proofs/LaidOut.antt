@@ -301,27 +301,49 @@ rest_found v lines (inl t) =
     let p = one_pool d.end d.left.front.mid d.left.front.front in
     let m = pools_found d.left.front.mid d.left.mid d.left.front.back in
     record {
-      sorts = d.sorts; funs = d.funs; explored = d.explored; background = d.background; pools = given (p.0 ∷ m.rows);
+      sorts = d.sorts;
+      funs = d.funs;
+      explored = d.explored;
+      background = d.background;
+      pools = given (p.0 ∷ m.rows);
       is = begins t.front line.PoolsGiven (of t.front) ∙ ap (λ z. line.PoolsGiven ∷ z) (d.is
           ∙ ap (λ z. sorts_then v d.sorts (funs_then v d.funs (line.Explore d.explored ∷ background_then d.background z)))
           (p.1 ∙ ap (λ z. line.Pool ∷ values_then p.0 z) (m.is ∙ ap (pools_then m.rows) (end_found d.left.mid d.left.back))));
-      has_sorts = d.has_sorts; has_pools = tt; sorts_fit = d.sorts_fit; funs_fit = d.funs_fit;
+      has_sorts = d.has_sorts;
+      has_pools = tt;
+      sorts_fit = d.sorts_fit;
+      funs_fit = d.funs_fit;
     }
 rest_found v lines (inr t) =
     let d = declared_found v (one shape.End) t.mid t.back in
     let (s, h, c, e) = of t.front in
     record {
-      sorts = d.sorts; funs = d.funs; explored = d.explored; background = d.background; pools = seeded s h c;
+      sorts = d.sorts;
+      funs = d.funs;
+      explored = d.explored;
+      background = d.background;
+      pools = seeded s h c;
       is = begins t.front (line.PoolsSeed s h c) e ∙ ap (λ z. line.PoolsSeed s h c ∷ z) (d.is
           ∙ ap (λ z. sorts_then v d.sorts (funs_then v d.funs (line.Explore d.explored ∷ background_then d.background z))) (end_found d.end d.left));
-      has_sorts = d.has_sorts; has_pools = tt; sorts_fit = d.sorts_fit; funs_fit = d.funs_fit;
+      has_sorts = d.has_sorts;
+      has_pools = tt;
+      sorts_fit = d.sorts_fit;
+      funs_fit = d.funs_fit;
     }
 
 -- The whole text
 
 abbrev made : (v : Version) (size budget pairs : ℕ) (lines : List RawLine) → RestFound v lines → Layout
 made v size budget pairs lines r = record {
-  version = v; size = size; budget = budget; pairs = pairs; sorts = r.sorts; funs = r.funs; explored = r.explored; background = r.background; pools = r.pools;
+  version = v;
+  size = size;
+  budget = budget;
+  pairs = pairs;
+  sorts = r.sorts;
+  funs = r.funs;
+  explored = r.explored;
+  background = r.background;
+  pools = r.pools;
 }
 
 first_laid : (lines : List RawLine) → From (version (shape.Head ∷ shape.Vars ∷ shape.Size ∷ shape.Width ∷ shape.Budget ∷ shape.Pairs ∷ []) shape.SortLine shape.ConLine shape.FunLine) lines []
@@ -330,37 +352,52 @@ first_laid lines t =
     let t1 = t.back in let t2 = t1.back in let t3 = t2.back in let t4 = t3.back in let t5 = t4.back in
     let (n1, e1) = of t1.front in let (n2, e2) = of t2.front in let (n3, e3) = of t3.front in let (n4, e4) = of t4.front in let (n5, e5) = of t5.front in
     let v = first n1 n3 in
-    let r = rest_found v t5.mid t5.back in
-    (made v n2 n4 n5 t5.mid r, record {
-      lines_are = begins t.front line.Head (of t.front) ∙ ap (λ z. line.Head ∷ z) (begins t1.front (line.Vars n1) e1 ∙ ap (λ z. line.Vars n1 ∷ z)
-          (begins t2.front (line.Size n2) e2 ∙ ap (λ z. line.Size n2 ∷ z) (begins t3.front (line.Width n3) e3 ∙ ap (λ z. line.Width n3 ∷ z)
-          (begins t4.front (line.Budget n4) e4 ∙ ap (λ z. line.Budget n4 ∷ z) (begins t5.front (line.Pairs n5) e5 ∙ ap (λ z. line.Pairs n5 ∷ z) r.is)))));
-      sorts_fit = r.sorts_fit; funs_fit = r.funs_fit; has_sorts = r.has_sorts; has_pools = r.has_pools;
-    })
+    let r = rest_found v t5.mid t5.back in (
+      made v n2 n4 n5 t5.mid r,
+      record {
+        lines_are = begins t.front line.Head (of t.front) ∙ ap (λ z. line.Head ∷ z) (begins t1.front (line.Vars n1) e1 ∙ ap (λ z. line.Vars n1 ∷ z)
+            (begins t2.front (line.Size n2) e2 ∙ ap (λ z. line.Size n2 ∷ z) (begins t3.front (line.Width n3) e3 ∙ ap (λ z. line.Width n3 ∷ z)
+            (begins t4.front (line.Budget n4) e4 ∙ ap (λ z. line.Budget n4 ∷ z) (begins t5.front (line.Pairs n5) e5 ∙ ap (λ z. line.Pairs n5 ∷ z) r.is)))));
+        sorts_fit = r.sorts_fit;
+        funs_fit = r.funs_fit;
+        has_sorts = r.has_sorts;
+        has_pools = r.has_pools;
+      },
+    )
 
 second_laid : (lines : List RawLine) → From (version (shape.Head2 ∷ shape.Size ∷ shape.Budget ∷ shape.Pairs ∷ []) shape.SortLine2 shape.ConLine shape.FunLine) lines []
     → (l : Layout) × IsLayout lines l
 second_laid lines t =
     let t2 = t.back in let t4 = t2.back in let t5 = t4.back in
     let (n2, e2) = of t2.front in let (n4, e4) = of t4.front in let (n5, e5) = of t5.front in
-    let r = rest_found second t5.mid t5.back in
-    (made second n2 n4 n5 t5.mid r, record {
-      lines_are = begins t.front line.Head2 (of t.front) ∙ ap (λ z. line.Head2 ∷ z) (begins t2.front (line.Size n2) e2 ∙ ap (λ z. line.Size n2 ∷ z)
-          (begins t4.front (line.Budget n4) e4 ∙ ap (λ z. line.Budget n4 ∷ z) (begins t5.front (line.Pairs n5) e5 ∙ ap (λ z. line.Pairs n5 ∷ z) r.is)));
-      sorts_fit = r.sorts_fit; funs_fit = r.funs_fit; has_sorts = r.has_sorts; has_pools = r.has_pools;
-    })
+    let r = rest_found second t5.mid t5.back in (
+      made second n2 n4 n5 t5.mid r,
+      record {
+        lines_are = begins t.front line.Head2 (of t.front) ∙ ap (λ z. line.Head2 ∷ z) (begins t2.front (line.Size n2) e2 ∙ ap (λ z. line.Size n2 ∷ z)
+            (begins t4.front (line.Budget n4) e4 ∙ ap (λ z. line.Budget n4 ∷ z) (begins t5.front (line.Pairs n5) e5 ∙ ap (λ z. line.Pairs n5 ∷ z) r.is)));
+        sorts_fit = r.sorts_fit;
+        funs_fit = r.funs_fit;
+        has_sorts = r.has_sorts;
+        has_pools = r.has_pools;
+      },
+    )
 
 third_laid : (lines : List RawLine) → From (version (shape.Head3 ∷ shape.Size ∷ shape.Budget ∷ shape.Pairs ∷ []) shape.SortLine2 shape.ConLine3 shape.FunLine3) lines []
     → (l : Layout) × IsLayout lines l
 third_laid lines t =
     let t2 = t.back in let t4 = t2.back in let t5 = t4.back in
     let (n2, e2) = of t2.front in let (n4, e4) = of t4.front in let (n5, e5) = of t5.front in
-    let r = rest_found third t5.mid t5.back in
-    (made third n2 n4 n5 t5.mid r, record {
-      lines_are = begins t.front line.Head3 (of t.front) ∙ ap (λ z. line.Head3 ∷ z) (begins t2.front (line.Size n2) e2 ∙ ap (λ z. line.Size n2 ∷ z)
-          (begins t4.front (line.Budget n4) e4 ∙ ap (λ z. line.Budget n4 ∷ z) (begins t5.front (line.Pairs n5) e5 ∙ ap (λ z. line.Pairs n5 ∷ z) r.is)));
-      sorts_fit = r.sorts_fit; funs_fit = r.funs_fit; has_sorts = r.has_sorts; has_pools = r.has_pools;
-    })
+    let r = rest_found third t5.mid t5.back in (
+      made third n2 n4 n5 t5.mid r,
+      record {
+        lines_are = begins t.front line.Head3 (of t.front) ∙ ap (λ z. line.Head3 ∷ z) (begins t2.front (line.Size n2) e2 ∙ ap (λ z. line.Size n2 ∷ z)
+            (begins t4.front (line.Budget n4) e4 ∙ ap (λ z. line.Budget n4 ∷ z) (begins t5.front (line.Pairs n5) e5 ∙ ap (λ z. line.Pairs n5 ∷ z) r.is)));
+        sorts_fit = r.sorts_fit;
+        funs_fit = r.funs_fit;
+        has_sorts = r.has_sorts;
+        has_pools = r.has_pools;
+      },
+    )
 
 pub laid_out : (lines : List RawLine) → IsRawSig lines → (l : Layout) × IsLayout lines l
 laid_out lines raw = by (subst (λ z. From order z []) (append-nil lines) (reads order lines [] raw.order))

@@ -326,9 +326,10 @@ pools_pass text seen (p ∷ ps) h =
     let a = neither (fault_if (nat_le 16 seen.pools) kind.SettingRange) _ h.0 in
     let c : values_count (values_then p rest) ≡ length text.sorts = eqb-true _ _ (not_false _ (fault_none _ kind.Arity a.1)) in
     let r = rows_pass text (after_pool seen) p rest h.1 in
-    let m = pools_pass text (rows_seen (after_pool seen) p) ps r.other in
-    (record { low = fault_none _ kind.SettingRange a.0; count = sym (count_is p rest (no_more ps)) ∙ c; rows = r.one },
-    subst (λ n. PoolsGood text n ps) (rows_pools (after_pool seen) p) m)
+    let m = pools_pass text (rows_seen (after_pool seen) p) ps r.other in (
+      record { low = fault_none _ kind.SettingRange a.0; count = sym (count_is p rest (no_more ps)) ∙ c; rows = r.one },
+      subst (λ n. PoolsGood text n ps) (rows_pools (after_pool seen) p) m,
+    )
 
 abbrev pub EndsGood : Whole → PoolRows → Type 0
 EndsGood text (given ps) = PoolsGood text 0 ps

@@ -116,7 +116,10 @@ case_ok text parts seen k n args result sort c declares at place has e size = by
         let is : same_sort sort (result_of h) ≡ true = not_false _ (or_false (is_function (Some h)) (not (same_sort sort (result_of h))) w).1 in
         record {
           one = record {
-            number = number; con = con; numbered = k'; declared = d;
+            number = number;
+            con = con;
+            numbered = k';
+            declared = d;
             of = turned sort con.sort (sym (ap (λ z. same_sort sort (result_of z)) same) ∙ is);
             body = subst (λ p. BodyOk parts k p con.args args result (stated_body text c.body) c.body) place
                 (body_ok text parts seen k args result con.args c.body declares at (sym (ap (λ z. body_fault text seen (args_of z) c.body) same) ∙ b) size);
@@ -181,7 +184,9 @@ case_found text cs rest con none e = by (slice_get text.names con.0) refl e
     numbered name k (Some at) n h =
         let r = row_at cs rest at name (stands_at (con_names cs) name at (sym (ap (λ l. number_of l name) (names_are cs rest none)) ∙ n)) in
         record {
-          row = r.0; is_in = r.1; named = k ∙ ap Some (sym r.2);
+          row = r.0;
+          is_in = r.1;
+          named = k ∙ ap Some (sym r.2);
           case = ap (λ o. case_body text (case_line (cases_then cs rest) (case_number (case_names (cases_then cs rest)) o))) k
               ∙ ap (λ o. case_body text (case_line (cases_then cs rest) o)) n ∙ ap (case_body text) r.3;
         }
@@ -236,91 +241,90 @@ module _ (text : Whole) (parts : SigParts) (declares : Declares text parts) (dis
     (oks : Each (CaseOk text parts k n args result sort) cs) (new : NewFrom [] (con_names cs))
     (complete : list_all (has_case text (case_names (cases_then cs rest))) (constructors parts sort) ≡ true)
   where
+    found : (c : SymId) → In c (constructors parts sort) → CaseFound text cs rest c
+    found c at = case_found text cs rest c none (all_found (has_case text (case_names (cases_then cs rest))) (constructors parts sort) complete c at)
 
-  found : (c : SymId) → In c (constructors parts sort) → CaseFound text cs rest c
-  found c at = case_found text cs rest c none (all_found (has_case text (case_names (cases_then cs rest))) (constructors parts sort) complete c at)
+    -- the constructor of a case is the one that it names
+    same_con : (c : SymId) → (f : CaseFound text cs rest c) → (o : CaseOk text parts k n args result sort f.row) → c.0 ≡ o.number
+    same_con c f o =
+        let in_names : slice_get parts.symbol_names c.0 ≡ Some f.row.con = ap (λ l. slice_get l c.0) (sym declares.names) ∙ f.named in
+        let again : number_of text.names f.row.con ≡ Some c.0 =
+        ap (λ l. number_of l f.row.con) declares.names ∙ found_at parts.symbol_names f.row.con c.0 distinct in_names in
+        some_is c.0 o.number (sym again ∙ o.numbered)
 
-  -- the constructor of a case is the one that it names
-  same_con : (c : SymId) → (f : CaseFound text cs rest c) → (o : CaseOk text parts k n args result sort f.row) → c.0 ≡ o.number
-  same_con c f o =
-      let in_names : slice_get parts.symbol_names c.0 ≡ Some f.row.con = ap (λ l. slice_get l c.0) (sym declares.names) ∙ f.named in
-      let again : number_of text.names f.row.con ≡ Some c.0 =
-      ap (λ l. number_of l f.row.con) declares.names ∙ found_at parts.symbol_names f.row.con c.0 distinct in_names in
-      some_is c.0 o.number (sym again ∙ o.numbered)
+    con_case : (c : SymId) → In c (constructors parts sort)
+        → IsCase (λ fields body. IsBody parts (formed_at k (Some n) fields args) result body) (symbol_at parts c) (stated_case text (cases_then cs rest) c)
+    con_case c at =
+        let f = found c at in
+        let o = of_each (CaseOk text parts k n args result sort) f.is_in oks in
+        let here_it_is : symbol_at parts c ≡ Some (sym.Con o.con) = ap (slice_get parts.symbols) (same_con c f o) ∙ o.declared in
+        subst (λ z. IsCase (λ fields body. IsBody parts (formed_at k (Some n) fields args) result body) z (stated_case text (cases_then cs rest) c)) (sym here_it_is)
+        (subst (λ b. IsBody parts (formed_at k (Some n) o.con.args args) result b) (sym f.case) o.body.is)
 
-  con_case : (c : SymId) → In c (constructors parts sort)
-      → IsCase (λ fields body. IsBody parts (formed_at k (Some n) fields args) result body) (symbol_at parts c) (stated_case text (cases_then cs rest) c)
-  con_case c at =
-      let f = found c at in
-      let o = of_each (CaseOk text parts k n args result sort) f.is_in oks in
-      let here_it_is : symbol_at parts c ≡ Some (sym.Con o.con) = ap (slice_get parts.symbols) (same_con c f o) ∙ o.declared in
-      subst (λ z. IsCase (λ fields body. IsBody parts (formed_at k (Some n) fields args) result body) z (stated_case text (cases_then cs rest) c)) (sym here_it_is)
-      (subst (λ b. IsBody parts (formed_at k (Some n) o.con.args args) result b) (sym f.case) o.body.is)
+    name_of : SymId → List ℕ
+    name_of c = symbol_name parts c
 
-  name_of : SymId → List ℕ
-  name_of c = symbol_name parts c
+    named_so : (c : SymId) → (f : CaseFound text cs rest c) → symbol_name parts c ≡ f.row.con
+    named_so c f = get_or_from_slice_get parts.symbol_names c.0 f.row.con [] (ap (λ l. slice_get l c.0) (sym declares.names) ∙ f.named)
 
-  named_so : (c : SymId) → (f : CaseFound text cs rest c) → symbol_name parts c ≡ f.row.con
-  named_so c f = get_or_from_slice_get parts.symbol_names c.0 f.row.con [] (ap (λ l. slice_get l c.0) (sym declares.names) ∙ f.named)
+    names_in : (name : List ℕ) → In name (map (symbol_name parts) (constructors parts sort)) → In name (con_names cs)
+    names_in name at = let p = from_map (constructors parts sort) name at in
+        let f = found p.0 p.1 in subst (λ z. In z (con_names cs)) (sym (named_so p.0 f) ∙ sym p.2) (in_map (λ (c : CaseRow). c.con) f.is_in)
+      where
+        from_map : (xs : List SymId) (name : List ℕ) → In name (map (symbol_name parts) xs) → (c : SymId) × In c xs × (name ≡ symbol_name parts c)
+        from_map [] name at = elim at [ ]
+        from_map (x ∷ xs) name here = (x, here, refl)
+        from_map (x ∷ xs) name (there at) = let r = from_map xs name at in (r.0, there r.1, r.2)
 
-  names_in : (name : List ℕ) → In name (map (symbol_name parts) (constructors parts sort)) → In name (con_names cs)
-  names_in name at = let p = from_map (constructors parts sort) name at in
-      let f = found p.0 p.1 in subst (λ z. In z (con_names cs)) (sym (named_so p.0 f) ∙ sym p.2) (in_map (λ (c : CaseRow). c.con) f.is_in)
-    where
-      from_map : (xs : List SymId) (name : List ℕ) → In name (map (symbol_name parts) xs) → (c : SymId) × In c xs × (name ≡ symbol_name parts c)
-      from_map [] name at = elim at [ ]
-      from_map (x ∷ xs) name here = (x, here, refl)
-      from_map (x ∷ xs) name (there at) = let r = from_map xs name at in (r.0, there r.1, r.2)
+    cons_in : (cs' : List CaseRow) → Each (CaseOk text parts k n args result sort) cs' → (name : List ℕ) → In name (con_names cs')
+        → In name (map (symbol_name parts) (constructors parts sort))
+    cons_in [] have name at = elim at [ ]
+    cons_in (c ∷ cs') have name here =
+        let o = have.0 in
+        let plain : 0 + o.number ≡ o.number = omega arith in
+        let member : In (record { 0 = o.number }) (constructors parts sort) =
+        subst (λ m. In (record { 0 = m }) (constructors parts sort)) plain (of_cons 0 parts.symbols sort o.number o.con o.declared o.of) in
+        subst (λ z. In z (map (symbol_name parts) (constructors parts sort))) (symbol_named text parts declares c.con o.number o.numbered) (in_map (symbol_name parts) member)
+    cons_in (c ∷ cs') have name (there at) = cons_in cs' have.1 name at
 
-  cons_in : (cs' : List CaseRow) → Each (CaseOk text parts k n args result sort) cs' → (name : List ℕ) → In name (con_names cs')
-      → In name (map (symbol_name parts) (constructors parts sort))
-  cons_in [] have name at = elim at [ ]
-  cons_in (c ∷ cs') have name here =
-      let o = have.0 in
-      let plain : 0 + o.number ≡ o.number = omega arith in
-      let member : In (record { 0 = o.number }) (constructors parts sort) =
-      subst (λ m. In (record { 0 = m }) (constructors parts sort)) plain (of_cons 0 parts.symbols sort o.number o.con o.declared o.of) in
-      subst (λ z. In z (map (symbol_name parts) (constructors parts sort))) (symbol_named text parts declares c.con o.number o.numbered) (in_map (symbol_name parts) member)
-  cons_in (c ∷ cs') have name (there at) = cons_in cs' have.1 name at
+    within : (c : SymId) → In c (constructors parts sort) → c.0 < length parts.symbol_names
+    within c at =
+        let i = cons_of 0 parts.symbols sort c at in
+        let e : c.0 ≡ 0 + i.place = ap (λ (z : SymId). z.0) i.is in
+        let l : i.place < length parts.symbols = slice_get_within parts.symbols i.place (sym.Con i.con) i.at in
+        let o : length parts.symbol_names ≡ length parts.symbols = one_each in omega arith
 
-  within : (c : SymId) → In c (constructors parts sort) → c.0 < length parts.symbol_names
-  within c at =
-      let i = cons_of 0 parts.symbols sort c at in
-      let e : c.0 ≡ 0 + i.place = ap (λ (z : SymId). z.0) i.is in
-      let l : i.place < length parts.symbols = slice_get_within parts.symbols i.place (sym.Con i.con) i.at in
-      let o : length parts.symbol_names ≡ length parts.symbols = one_each in omega arith
+    apart : (x y : SymId) → In x (constructors parts sort) → In y (constructors parts sort) → symbol_name parts x ≡ symbol_name parts y → x ≡ y
+    apart x y at_x at_y e =
+        let a = number_again parts.symbol_names x.0 distinct (within x at_x) in
+        let b = number_again parts.symbol_names y.0 distinct (within y at_y) in
+        ap (λ m. record { 0 = m }) (some_is x.0 y.0 (sym a ∙ ap (number_of parts.symbol_names) e ∙ b))
 
-  apart : (x y : SymId) → In x (constructors parts sort) → In y (constructors parts sort) → symbol_name parts x ≡ symbol_name parts y → x ≡ y
-  apart x y at_x at_y e =
-      let a = number_again parts.symbol_names x.0 distinct (within x at_x) in
-      let b = number_again parts.symbol_names y.0 distinct (within y at_y) in
-      ap (λ m. record { 0 = m }) (some_is x.0 y.0 (sym a ∙ ap (number_of parts.symbol_names) e ∙ b))
+    as_many : length (con_names cs) ≡ length (constructors parts sort)
+    as_many =
+        let up : length (con_names cs) ≤ length (map (symbol_name parts) (constructors parts sort)) =
+        no_longer (con_names cs) (map (symbol_name parts) (constructors parts sort)) (new_distinct [] (con_names cs) new) (cons_in cs oks) in
+        let down : length (map (symbol_name parts) (constructors parts sort)) ≤ length (con_names cs) =
+        no_longer (map (symbol_name parts) (constructors parts sort)) (con_names cs)
+        (map_distinct (symbol_name parts) (constructors parts sort) (cons_distinct 0 parts.symbols sort) apart) names_in in
+        let e : length (map (symbol_name parts) (constructors parts sort)) ≡ length (constructors parts sort) = length-map (constructors parts sort) (symbol_name parts) in
+        omega arith
 
-  as_many : length (con_names cs) ≡ length (constructors parts sort)
-  as_many =
-      let up : length (con_names cs) ≤ length (map (symbol_name parts) (constructors parts sort)) =
-      no_longer (con_names cs) (map (symbol_name parts) (constructors parts sort)) (new_distinct [] (con_names cs) new) (cons_in cs oks) in
-      let down : length (map (symbol_name parts) (constructors parts sort)) ≤ length (con_names cs) =
-      no_longer (map (symbol_name parts) (constructors parts sort)) (con_names cs)
-      (map_distinct (symbol_name parts) (constructors parts sort) (cons_distinct 0 parts.symbols sort) apart) names_in in
-      let e : length (map (symbol_name parts) (constructors parts sort)) ≡ length (constructors parts sort) = length-map (constructors parts sort) (symbol_name parts) in
-      omega arith
+    each_line : (at : ℕ) (con : SymId) (body : Body) → slice_get (constructors parts sort) at ≡ Some con
+        → slice_get (map (stated_case text (cases_then cs rest)) (constructors parts sort)) at ≡ Some body
+        → In (line.CaseLine (symbol_name parts con) (named_body parts body)) (case_lines cs)
+    each_line at con body e g =
+        let m = mapped_at (stated_case text (cases_then cs rest)) (constructors parts sort) at con body e g in
+        let f = found con m.0 in
+        let o = of_each (CaseOk text parts k n args result sort) f.is_in oks in
+        let written : named_body parts body ≡ f.row.body = ap (named_body parts) (m.1 ∙ f.case) ∙ o.body.named in
+        subst (λ z. In z (case_lines cs)) (sym (ap₂ line.CaseLine (named_so con f) written)) (in_lines cs f.row f.is_in)
 
-  each_line : (at : ℕ) (con : SymId) (body : Body) → slice_get (constructors parts sort) at ≡ Some con
-      → slice_get (map (stated_case text (cases_then cs rest)) (constructors parts sort)) at ≡ Some body
-      → In (line.CaseLine (symbol_name parts con) (named_body parts body)) (case_lines cs)
-  each_line at con body e g =
-      let m = mapped_at (stated_case text (cases_then cs rest)) (constructors parts sort) at con body e g in
-      let f = found con m.0 in
-      let o = of_each (CaseOk text parts k n args result sort) f.is_in oks in
-      let written : named_body parts body ≡ f.row.body = ap (named_body parts) (m.1 ∙ f.case) ∙ o.body.named in
-      subst (λ z. In z (case_lines cs)) (sym (ap₂ line.CaseLine (named_so con f) written)) (in_lines cs f.row f.is_in)
-
-  match_is : MatchIs text parts k n args result sort cs rest
-  match_is = record {
-    cases = are_cases parts (λ fields body. IsBody parts (formed_at k (Some n) fields args) result body) (stated_case text (cases_then cs rest)) (constructors parts sort) con_case;
-    lines = record { one_each = lines_count cs ∙ as_many; each = each_line };
-  }
+    match_is : MatchIs text parts k n args result sort cs rest
+    match_is = record {
+      cases = are_cases parts (λ fields body. IsBody parts (formed_at k (Some n) fields args) result body) (stated_case text (cases_then cs rest)) (constructors parts sort) con_case;
+      lines = record { one_each = lines_count cs ∙ as_many; each = each_line };
+    }
 
 -- The rules of a function
 

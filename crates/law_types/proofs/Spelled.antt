@@ -18,7 +18,10 @@ use Rattle.law_sig.specs.declared.parts.SigParts.{SigParts}
 use Rattle.law_laws.proofs.TreeFacts.{tree_induct, fold-Var, fold-App}
 use Rattle.law_laws.proofs.BodyFacts.{body_induct}
 use Rattle.law_laws.proofs.Sorts.{both_true}
-use Rattle.law_read.specs.Terms.{the_bounds, IsTerm, is_name_in, equation, body, value, larger, largest}
+use Rattle.law_read.specs.Terms.{IsTerm, is_name_in, larger, largest}
+use Rattle.law_read.specs.declared.want.Bounds.TheVariants.{Kept}
+use Rattle.law_read.specs.declared.want.Place.{Place}
+use Rattle.law_read.specs.declared.want.Place.TheVariants.{Equation, Body as BodyPlace, Value}
 use Rattle.law_read.specs.Terms as raw
 use Rattle.law_read.specs.Lines.{IsName, AreSorts, AreValues, IsLine}
 use Rattle.law_read.specs.declared.raw.RawHead.{RawHead}
@@ -52,11 +55,11 @@ bytes_same : (ns : List ℕ) → list_all read_byte ns ≡ list_all is_name_byte
 bytes_same [] = refl
 bytes_same (n ∷ ns) = ap₂ ◌&&◌ (byte_same n) (bytes_same ns)
 
-name_same : (name : List ℕ) → is_name_in the_bounds name ≡ is_name name
+name_same : (name : List ℕ) → is_name_in Kept name ≡ is_name name
 name_same [] = refl
 name_same (n ∷ ns) = ap (λ z. (is_letter n && z) && nat_le (length (n ∷ ns)) 32) (bytes_same ns)
 
-pub is_spelled : (name : List ℕ) → IsName the_bounds name → IsTrue (is_name name)
+pub is_spelled : (name : List ℕ) → IsName Kept name → IsTrue (is_name name)
 is_spelled name h = sym (name_same name) ∙ h
 
 -- Sizes
@@ -127,7 +130,7 @@ pub record HasSize (t : RawTerm) : Type 0 where
   pub nodes : raw.node_count t ≤ 4096
   pub depth : raw.depth t ≤ 256
 
-term_size : (place : raw.Place) (t : RawTerm) → IsTerm the_bounds place t → HasSize t
+term_size : (place : Place) (t : RawTerm) → IsTerm Kept place t → HasSize t
 term_size place t h = record { nodes = leb-true (raw.node_count t) 4096 h.size; depth = leb-true (raw.depth t) 256 h.deep }
 
 pub tree_writable : (parts : SigParts) (t : Tree) (term : RawTerm) → named_term parts t ≡ term → HasSize term → IsWritable (node_count t) (depth t)
@@ -145,7 +148,7 @@ body_writable parts t term e h = record {
 -- The parts of a text
 
 abbrev pub AreLines : List RawLine → Type 0
-AreLines lines = AllByRecursion (IsLine the_bounds) lines
+AreLines lines = AllByRecursion (IsLine Kept) lines
 
 pub record ConSpelled (c : ConRow) : Type 0 where
   pub name : IsTrue (is_name c.name)
@@ -175,20 +178,20 @@ abbrev pub EndsSpelled : PoolRows → Type 0
 EndsSpelled (given ps) = Each (Each RowSpelled) ps
 EndsSpelled (seeded s h c) = s < 2 ^ 63
 
-few_args : (args : List (List ℕ)) → AreSorts the_bounds args → length args ≤ 8
+few_args : (args : List (List ℕ)) → AreSorts Kept args → length args ≤ 8
 few_args args h = leb-true (length args) 8 h.few
 
-con_spelled : (v : Version) (c : ConRow) → IsLine the_bounds (con_line v c) → ConSpelled c
+con_spelled : (v : Version) (c : ConRow) → IsLine Kept (con_line v c) → ConSpelled c
 con_spelled (first vars width) c h = record { name = is_spelled c.name h.0; few = few_args c.args h.1 }
 con_spelled second c h = record { name = is_spelled c.name h.0; few = few_args c.args h.1 }
 con_spelled third c h = record { name = is_spelled c.name h.1; few = few_args c.args h.2 }
 
-sort_spelled : (v : Version) (s : SortRow) → IsLine the_bounds (sort_line v s) → IsTrue (is_name s.name)
+sort_spelled : (v : Version) (s : SortRow) → IsLine Kept (sort_line v s) → IsTrue (is_name s.name)
 sort_spelled (first vars width) s h = is_spelled s.name h
 sort_spelled second s h = is_spelled s.name h.0
 sort_spelled third s h = is_spelled s.name h.0
 
-fun_spelled : (v : Version) (r : FunRow) → IsLine the_bounds (fun_line v r) → RulesSpelled r.rules → FunSpelled r
+fun_spelled : (v : Version) (r : FunRow) → IsLine Kept (fun_line v r) → RulesSpelled r.rules → FunSpelled r
 fun_spelled (first vars width) r h k = record { name = is_spelled r.name h.0; few = few_args r.args h.1; rules = k }
 fun_spelled second r h k = record { name = is_spelled r.name h.0; few = few_args r.args h.1; rules = k }
 fun_spelled third r h k = record { name = is_spelled r.name h.1; few = few_args r.args h.2; rules = k }
@@ -206,10 +209,10 @@ sorts_spelled v (s ∷ ss) rest h =
 
 cases_spelled : (cs : List CaseRow) (rest : List RawLine) → AreLines (cases_then cs rest) → Both (Each (λ (c : CaseRow). HasSize c.body) cs) (AreLines rest)
 cases_spelled [] rest h = record { one = tt; other = h }
-cases_spelled (c ∷ cs) rest h = let r = cases_spelled cs rest h.1 in record { one = (term_size body c.body h.0.1, r.one); other = r.other }
+cases_spelled (c ∷ cs) rest h = let r = cases_spelled cs rest h.1 in record { one = (term_size BodyPlace c.body h.0.1, r.one); other = r.other }
 
 rules_spelled : (r : Rules) (rest : List RawLine) → AreLines (rules_then r rest) → Both (RulesSpelled r) (AreLines rest)
-rules_spelled (single t) rest h = record { one = term_size body t h.0; other = h.1 }
+rules_spelled (single t) rest h = record { one = term_size BodyPlace t h.0; other = h.1 }
 rules_spelled (matching n cs) rest h = cases_spelled cs rest h.1
 
 funs_spelled : (v : Version) (fs : List FunRow) (rest : List RawLine) → AreLines (funs_then v fs rest) → Both (Each FunSpelled fs) (AreLines rest)
@@ -223,11 +226,11 @@ sides_spelled : (es : List SidesRow) (rest : List RawLine) → AreLines (backgro
 sides_spelled [] rest h = record { one = tt; other = h }
 sides_spelled (e ∷ es) rest h =
     let r = sides_spelled es rest h.1 in
-    record { one = (record { left = term_size equation e.left h.0.0; right = term_size equation e.right h.0.1 }, r.one); other = r.other }
+    record { one = (record { left = term_size Equation e.left h.0.0; right = term_size Equation e.right h.0.1 }, r.one); other = r.other }
 
-values_sizes : (ts : List RawTerm) → AreValues the_bounds ts → Each HasSize ts
+values_sizes : (ts : List RawTerm) → AreValues Kept ts → Each HasSize ts
 values_sizes [] h = tt
-values_sizes (t ∷ ts) h = (term_size value t h.0, values_sizes ts h.1)
+values_sizes (t ∷ ts) h = (term_size Value t h.0, values_sizes ts h.1)
 
 rows_spelled : (vs : List ValuesRow) (rest : List RawLine) → AreLines (values_then vs rest) → Both (Each RowSpelled vs) (AreLines rest)
 rows_spelled [] rest h = record { one = tt; other = h }
@@ -244,7 +247,7 @@ pub record AllSpelled (l : Layout) : Type 0 where
   pub ends : EndsSpelled l.pools
 
 start_spelled : (v : Version) (size budget pairs : ℕ) (ps : PoolRows) (rest : List RawLine) → AreLines (start_then v size budget pairs ps rest)
-    → Both (IsLine the_bounds (rule_line ps)) (AreLines rest)
+    → Both (IsLine Kept (rule_line ps)) (AreLines rest)
 start_spelled (first vars width) size budget pairs ps rest h = record { one = h.1.1.1.1.1.1.0; other = h.1.1.1.1.1.1.1 }
 start_spelled second size budget pairs ps rest h = record { one = h.1.1.1.1.0; other = h.1.1.1.1.1 }
 start_spelled third size budget pairs ps rest h = record { one = h.1.1.1.1.0; other = h.1.1.1.1.1 }
@@ -257,6 +260,6 @@ all_spelled l h =
     let e = sides_spelled l.background (pool_lines l.pools) f.other.1 in
     record { sorts = a.one; funs = f.one; background = e.one; ends = ends l.pools s.one e.other }
   where
-    ends : (ps : PoolRows) → IsLine the_bounds (rule_line ps) → AreLines (pool_lines ps) → EndsSpelled ps
+    ends : (ps : PoolRows) → IsLine Kept (rule_line ps) → AreLines (pool_lines ps) → EndsSpelled ps
     ends (given ps) r k = pools_spelled ps (pool_lines (seeded 0 0 0)) k
     ends (seeded s h' c) r k = r.0

@@ -54,12 +54,15 @@ few sorts args h = subst (λ n. n ≤ 8) (sym (length-map args (sort_id sorts)))
 cons_ok : (text : Whole) (parts : SigParts) (seen : Seen) (m k : ℕ) (cs : List ConRow) (rest : List Sym) → Declares text parts → IsDeclared parts (record { 0 = m })
     → ConsGood text seen cs → Each ConSpelled cs → EachSym parts (past k cs) rest → EachSym parts k (map (con_sym text.sorts m) cs ++ rest)
 cons_ok text parts seen m k [] rest declares here good spelled h = h
-cons_ok text parts seen m k (c ∷ cs) rest declares here good spelled h = (record {
-  args_declared = known_args text parts declares c.args good.0.args;
-  args_bound = few text.sorts c.args spelled.0.few;
-  result_declared = here;
-  bodies = tt;
-}, cons_ok text parts (after_symbol seen) m (suc k) cs rest declares here good.1 spelled.1 h)
+cons_ok text parts seen m k (c ∷ cs) rest declares here good spelled h = (
+  record {
+    args_declared = known_args text parts declares c.args good.0.args;
+    args_bound = few text.sorts c.args spelled.0.few;
+    result_declared = here;
+    bodies = tt;
+  },
+  cons_ok text parts (after_symbol seen) m (suc k) cs rest declares here good.1 spelled.1 h,
+)
 
 sorts_ok : (text : Whole) (parts : SigParts) (seen : Seen) (m k : ℕ) (ss : List SortRow) (rest : List Sym) → Declares text parts → RowsAt parts m ss
     → SortsGood text seen ss → Each SortSpelled ss → EachSym parts (past_all k ss) rest → EachSym parts k (con_syms text.sorts m ss ++ rest)
@@ -127,14 +130,22 @@ funs_ok text parts v seen k (r ∷ fs) tail declares distinct one_each here none
     let next : (rules_seen (after_symbol seen) r.rules).symbols ≡ suc k = rules_symbols (after_symbol seen) r.rules ∙ one_more seen.symbols here in
     let m = funs_ok text parts v (rules_seen (after_symbol seen) r.rules) (suc k) fs tail declares distinct one_each next none at.1 good.2 spelled.1 in
     record {
-      syms = (record {
-        args_declared = known_args text parts declares r.args good.0.args;
-        args_bound = few text.sorts r.args spelled.0.few;
-        result_declared = (known_sort text parts declares r.result good.0.result).0;
-        bodies = ok.fits;
-      }, m.syms);
-      lines = (rule_lines r.rules, funs_lines v fs, ap (λ z. z ∷ (rule_lines r.rules ++ funs_lines v fs)) (sym (fun_again text parts v k r seen (rules_then r.rules rest) declares at.0 good.0)),
-        ok.rules, m.lines);
+      syms = (
+        record {
+          args_declared = known_args text parts declares r.args good.0.args;
+          args_bound = few text.sorts r.args spelled.0.few;
+          result_declared = (known_sort text parts declares r.result good.0.result).0;
+          bodies = ok.fits;
+        },
+        m.syms,
+      );
+      lines = (
+        rule_lines r.rules,
+        funs_lines v fs,
+        ap (λ z. z ∷ (rule_lines r.rules ++ funs_lines v fs)) (sym (fun_again text parts v k r seen (rules_then r.rules rest) declares at.0 good.0)),
+        ok.rules,
+        m.lines,
+      );
     }
   where
     one_more : (n : ℕ) → n ≡ k → n + 1 ≡ suc k

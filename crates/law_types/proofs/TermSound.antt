@@ -84,7 +84,10 @@ named_found text scope fields wanted name e = by (number_of text.names name) ref
         let c = neither (fault_if (not (length fields == length (args_of symbol))) kind.Arity) _ b.1 in
         let d' = neither (mismatch wanted (result_of symbol)) _ c.1 in
         record {
-          number = number; symbol = symbol; numbered = k; declared = d;
+          number = number;
+          symbol = symbol;
+          numbered = k;
+          declared = d;
           no_value = fault_none _ kind.UnknownName a.0;
           no_later = fault_none _ kind.LaterCall b.0;
           arity = eqb-true (length fields) (length (args_of symbol)) (not_false _ (fault_none _ kind.Arity c.0));
@@ -119,7 +122,8 @@ varied_found text scope index count wanted name e = by (number_of text.sorts nam
         let b = neither (fault_if (not (count == 0)) kind.Arity) _ a.1 in
         let c = neither (fault_if (not (is_in_range index (slice_get text.vars number))) kind.SettingRange) _ b.1 in
         record {
-          number = number; numbered = k;
+          number = number;
+          numbered = k;
           side = not_false _ (fault_none _ kind.UnknownName a.0);
           none = eqb-true count 0 (not_false _ (fault_none _ kind.Arity b.0));
           range = not_false _ (fault_none _ kind.SettingRange c.0);

@@ -140,7 +140,6 @@ root_of text parts declares formed = tree_induct (λ t. (sort : SortId) → sort
         ∙ ap (name_sort text) number ∙ ap sort_given (in_text text parts declares f.0 a.symbol a.declared) ∙ ap Some (headed_result a.symbol ∙ a.result)
 
 module _ (text : Whole) (parts : SigParts) (formed : IsWellFormed parts) (declares : Declares text parts) (widths : text.widths ≡ parts.settings.width) where
-
   -- Explored names
 
   name_number : (f : SymId) → f.0 < length parts.symbols → number_of text.names (symbol_name parts f) ≡ Some f.0
@@ -188,12 +187,13 @@ module _ (text : Whole) (parts : SigParts) (formed : IsWellFormed parts) (declar
   pub sides_fine : (seen : Seen) (es : List Equation) (rest : List RawLine) → Each (IsBackground parts) es → NoFaults text seen rest → NoFaults text seen (background_then (map (sides_row parts) es) rest)
   sides_fine seen [] rest h k = k
   sides_fine seen (e ∷ es) rest h k =
-      let b = h.0 in
-      (both_none (term_fault text side_scope None (named_term parts e.left)) _ (side_passes text parts declares formed e.left None b.sort b.left_side.sorted b.left_side.variables refl)
-      (both_none (term_fault text side_scope None (named_term parts e.right)) _ (side_passes text parts declares formed e.right None b.sort b.right_side.sorted b.right_side.variables refl)
-      (ap₂ sides_mismatch (root_of text parts declares formed e.left b.sort b.left_side.sorted) (root_of text parts declares formed e.right b.sort b.right_side.sorted)
-      ∙ no_fault _ (kind.SortMismatch b.sort b.sort) (ap not (same_sort_itself b.sort)))),
-      sides_fine seen es rest h.1 k)
+      let b = h.0 in (
+        both_none (term_fault text side_scope None (named_term parts e.left)) _ (side_passes text parts declares formed e.left None b.sort b.left_side.sorted b.left_side.variables refl)
+            (both_none (term_fault text side_scope None (named_term parts e.right)) _ (side_passes text parts declares formed e.right None b.sort b.right_side.sorted b.right_side.variables refl)
+            (ap₂ sides_mismatch (root_of text parts declares formed e.left b.sort b.left_side.sorted) (root_of text parts declares formed e.right b.sort b.right_side.sorted)
+            ∙ no_fault _ (kind.SortMismatch b.sort b.sort) (ap not (same_sort_itself b.sort)))),
+        sides_fine seen es rest h.1 k,
+      )
 
   -- Pools
 
@@ -252,11 +252,12 @@ module _ (text : Whole) (parts : SigParts) (formed : IsWellFormed parts) (declar
       let count : values_count (values_then (values_rows parts 0 p) rest) ≡ length text.sorts = rows_count 0 p rest (no_values pools) ∙ h.0.sorts ∙ sym (ap length declares.sorts) in
       let fits : 0 + length p ≤ length parts.sort_names = at_most (length p) h.0.sorts in
       let same = rows_pools (after_pool seen) (values_rows parts 0 p) in
-      let less : (seen.pools + 1) + length pools ≤ 16 = omega arith in
-      (both_none (fault_if (nat_le 16 seen.pools) kind.SettingRange) _ (no_fault _ kind.SettingRange low)
-      (no_fault _ kind.Arity (ap not (eq-eqb _ _ count))),
-      rows_fine (after_pool seen) 0 p rest refl fits h.0.values
-      (pools_fine (rows_seen (after_pool seen) (values_rows parts 0 p)) pools h.1 (subst (λ n. n + length pools ≤ 16) (sym same) less)))
+      let less : (seen.pools + 1) + length pools ≤ 16 = omega arith in (
+        both_none (fault_if (nat_le 16 seen.pools) kind.SettingRange) _ (no_fault _ kind.SettingRange low)
+            (no_fault _ kind.Arity (ap not (eq-eqb _ _ count))),
+        rows_fine (after_pool seen) 0 p rest refl fits h.0.values
+            (pools_fine (rows_seen (after_pool seen) (values_rows parts 0 p)) pools h.1 (subst (λ n. n + length pools ≤ 16) (sym same) less)),
+      )
     where
       at_most : (n : ℕ) → n ≡ length parts.sort_names → 0 + n ≤ length parts.sort_names
       at_most n e = omega arith
@@ -286,9 +287,11 @@ module _ (text : Whole) (parts : SigParts) (formed : IsWellFormed parts) (declar
   rule_fine seen (rule.Given pools) rest h k = (refl, k)
   rule_fine seen (rule.Seeded s height c) rest h k =
       let count : length text.sorts ≡ length parts.sort_names = ap length declares.sorts in
-      let all : 0 + length text.sorts ≤ length parts.sort_names = omega arith in
-      (both_none (out_of 1 16 height) _ (out_none 1 16 height h.height_range) (both_none (out_of 1 16 c) _ (out_none 1 16 c h.count_range)
-      (no_fault _ kind.SettingRange (high_enough height 0 (length text.sorts) all (λ sort declared. within_low text parts declares height sort (h.high_enough sort declared))))), k)
+      let all : 0 + length text.sorts ≤ length parts.sort_names = omega arith in (
+        both_none (out_of 1 16 height) _ (out_none 1 16 height h.height_range) (both_none (out_of 1 16 c) _ (out_none 1 16 c h.count_range)
+            (no_fault _ kind.SettingRange (high_enough height 0 (length text.sorts) all (λ sort declared. within_low text parts declares height sort (h.high_enough sort declared))))),
+        k,
+      )
 
 -- The whole text
 
@@ -302,9 +305,10 @@ cons_fit v parts fits [] = tt
 cons_fit v parts fits (c ∷ cs) = (weight_fits v parts fits c, cons_fit v parts fits cs)
 
 sort_fits : (v : Version) (parts : SigParts) → IsWellFormed parts → FitsVersion v parts → (m : ℕ) → m < length parts.sort_names → FitsSort v (sort_row parts (record { 0 = m }))
-sort_fits (first vars width) parts formed fits m l =
-    (each_at (λ n. n ≡ vars) 0 parts.settings.vars m fits.0 (subst (λ n. m < n) (sym formed.settings.vars.one_each) l),
-    each_at (λ n. n ≡ width) 1 parts.settings.width m fits.1 (subst (λ n. m < n) (sym formed.settings.width.one_each) l))
+sort_fits (first vars width) parts formed fits m l = (
+  each_at (λ n. n ≡ vars) 0 parts.settings.vars m fits.0 (subst (λ n. m < n) (sym formed.settings.vars.one_each) l),
+  each_at (λ n. n ≡ width) 1 parts.settings.width m fits.1 (subst (λ n. m < n) (sym formed.settings.width.one_each) l),
+)
 sort_fits second parts formed fits m l = tt
 sort_fits third parts formed fits m l = tt
 
@@ -325,7 +329,6 @@ setting_none : (low high n : ℕ) → IsBetween low high n → option_or (out_of
 setting_none low high n h = both_none (out_of low high n) None (out_none low high n h) refl
 
 module _ (lines : List RawLine) (parts : SigParts) (t : IsTypedAs lines parts) where
-
   abbrev ids : List SortId
   ids = nums sort_no 0 parts.sort_names
 
@@ -340,9 +343,15 @@ module _ (lines : List RawLine) (parts : SigParts) (t : IsTypedAs lines parts) w
 
   abbrev laid : Layout
   laid = record {
-    version = t.version; size = parts.settings.size; budget = parts.settings.budget; pairs = parts.settings.pairs;
-    sorts = map (sort_row parts) (nums sort_no 0 parts.sort_names); funs = funs.rows; explored = map (symbol_name parts) parts.settings.explored;
-    background = map (sides_row parts) parts.settings.background; pools = pool_rows parts parts.settings.pools;
+    version = t.version;
+    size = parts.settings.size;
+    budget = parts.settings.budget;
+    pairs = parts.settings.pairs;
+    sorts = map (sort_row parts) (nums sort_no 0 parts.sort_names);
+    funs = funs.rows;
+    explored = map (symbol_name parts) parts.settings.explored;
+    background = map (sides_row parts) parts.settings.background;
+    pools = pool_rows parts parts.settings.pools;
   }
 
   abbrev rest_lines : List RawLine
@@ -423,9 +432,22 @@ module _ (lines : List RawLine) (parts : SigParts) (t : IsTypedAs lines parts) w
       let in_vars : 0 < length parts.settings.vars = subst (λ n. 0 < n) (sym s.vars.one_each) one in
       let in_width : 0 < length parts.settings.width = subst (λ n. 0 < n) (sym s.width.one_each) one in
       let v = subst (IsBetween 0 8) (each_at (λ n. n ≡ vars) 0 parts.settings.vars 0 fits.0 in_vars) (each_at (IsBetween 0 8) 0 parts.settings.vars 0 s.vars.in_range in_vars) in
-      let w = subst (IsBetween 1 16) (each_at (λ n. n ≡ width) 1 parts.settings.width 0 fits.1 in_width) (each_at (IsBetween 1 16) 1 parts.settings.width 0 s.width.in_range in_width) in
-      (refl, (setting_none 0 8 vars v, (setting_none 1 32 parts.settings.size s.size, (setting_none 1 16 width w, (setting_none 1 1000000 parts.settings.budget s.budget,
-      (setting_none 0 4096 parts.settings.pairs (omega arith, s.pairs), h))))))
+      let w = subst (IsBetween 1 16) (each_at (λ n. n ≡ width) 1 parts.settings.width 0 fits.1 in_width) (each_at (IsBetween 1 16) 1 parts.settings.width 0 s.width.in_range in_width) in (
+        refl,
+        (
+          setting_none 0 8 vars v,
+          (
+            setting_none 1 32 parts.settings.size s.size,
+            (
+              setting_none 1 16 width w,
+              (
+                setting_none 1 1000000 parts.settings.budget s.budget,
+                (setting_none 0 4096 parts.settings.pairs (omega arith, s.pairs), h),
+              ),
+            ),
+          ),
+        ),
+      )
   start_fine text second fits ps rest h =
       let s = t.well_formed.settings in
       (refl, (setting_none 1 32 parts.settings.size s.size, (setting_none 1 1000000 parts.settings.budget s.budget, (setting_none 0 4096 parts.settings.pairs (omega arith, s.pairs), h))))
@@ -435,10 +457,11 @@ module _ (lines : List RawLine) (parts : SigParts) (t : IsTypedAs lines parts) w
 
   tail_fine : (text : Whole) (seen : Seen) → Declares text parts → text.widths ≡ parts.settings.width → seen.pools ≡ 0 → NoFaults text seen (tail_lines laid)
   tail_fine text seen d w e =
-      let s = t.well_formed.settings in
-      (explored_fine text parts t.well_formed d w [] parts.settings.explored s.explored_declared (λ f at. in_none at) (λ f at. in_none at) s.explored_distinct,
-      sides_fine text parts t.well_formed d w seen parts.settings.background (pool_lines (pool_rows parts parts.settings.pools)) s.background
-      (ends_fine text parts t.well_formed d w seen parts.settings.pools e s.pools))
+      let s = t.well_formed.settings in (
+        explored_fine text parts t.well_formed d w [] parts.settings.explored s.explored_declared (λ f at. in_none at) (λ f at. in_none at) s.explored_distinct,
+        sides_fine text parts t.well_formed d w seen parts.settings.background (pool_lines (pool_rows parts parts.settings.pools)) s.background
+            (ends_fine text parts t.well_formed d w seen parts.settings.pools e s.pools),
+      )
 
   fine : (text : Whole) → Declares text parts → text.widths ≡ parts.settings.width → NoFaults text nothing_seen (layout_lines laid)
   fine text d w =

@@ -141,7 +141,6 @@ start_typed second parts rest = refl
 start_typed third parts rest = refl
 
 module _ (text : Whole) (parts : SigParts) (l : Layout) (x : Sound text parts l) where
-
   fresh_s : FreshFrom 64 text.sorts 0 text.sorts
   fresh_s = subst (FreshFrom 64 text.sorts 0) (sym x.states.sorts) (fresh_sorts text l.sorts nothing_seen refl x.good.sorts)
 
@@ -350,7 +349,8 @@ module _ (text : Whole) (parts : SigParts) (l : Layout) (x : Sound text parts l)
         (each_map (FitsSortRow (first vars width)) (λ s. s.width ≡ width) (λ s q. q.0.1) l.sorts h)),
     subst (Each (λ n. n ≡ 1)) (sym x.states.weights) (each_both (λ n. n ≡ 1) (per_con (λ c. c.weight) l.sorts) (map (λ (r : FunRow). r.weight) l.funs)
         (each_con (λ n. n ≡ 1) (λ c. c.weight) l.sorts (each_map (FitsSortRow (first vars width)) (λ (s : SortRow). Each (λ (c : ConRow). c.weight ≡ 1) s.cons) (λ s q. q.1) l.sorts h))
-        (each_mapped (λ n. n ≡ 1) (λ (r : FunRow). r.weight) l.funs k)))
+        (each_mapped (λ n. n ≡ 1) (λ (r : FunRow). r.weight) l.funs k)),
+  )
   fits second h k =
       subst (Each (λ n. n ≡ 1)) (sym x.states.weights) (each_both (λ n. n ≡ 1) (per_con (λ c. c.weight) l.sorts) (map (λ (r : FunRow). r.weight) l.funs)
       (each_con (λ n. n ≡ 1) (λ c. c.weight) l.sorts (each_map (FitsSortRow second) (λ (s : SortRow). Each (λ (c : ConRow). c.weight ≡ 1) s.cons) (λ s q. q.1) l.sorts h))
@@ -377,13 +377,18 @@ pub sound : (lines : List RawLine) → IsRawSig lines → first_fault lines ≡ 
 sound lines raw none =
     let laid = laid_out lines raw in
     subst (λ z. IsTypedAs z (stated (whole z) z)) (sym laid.1.lines_are)
-    (here laid.0 laid.1 (subst (λ z. first_fault z ≡ None) laid.1.lines_are none) (subst (AllByRecursion (Rattle.law_read.specs.Lines.IsLine Rattle.law_read.specs.Terms.the_bounds)) laid.1.lines_are raw.each))
+    (here laid.0 laid.1 (subst (λ z. first_fault z ≡ None) laid.1.lines_are none) (subst (AllByRecursion (Rattle.law_read.specs.Lines.IsLine Rattle.law_read.specs.declared.want.Bounds.TheVariants.Kept)) laid.1.lines_are raw.each))
   where
-    here : (l : Layout) → IsLayout lines l → first_fault (layout_lines l) ≡ None → AllByRecursion (Rattle.law_read.specs.Lines.IsLine Rattle.law_read.specs.Terms.the_bounds) (layout_lines l)
+    here : (l : Layout) → IsLayout lines l → first_fault (layout_lines l) ≡ None → AllByRecursion (Rattle.law_read.specs.Lines.IsLine Rattle.law_read.specs.declared.want.Bounds.TheVariants.Kept) (layout_lines l)
         → IsTypedAs (layout_lines l) (stated (whole (layout_lines l)) (layout_lines l))
     here l is none each =
         let good = all_good (whole (layout_lines l)) l is.sorts_fit is.funs_fit (no_faults (whole (layout_lines l)) nothing_seen 1 (layout_lines l) none) in
         typed_as (whole (layout_lines l)) (stated (whole (layout_lines l)) (layout_lines l)) l (record {
-          states = states_all l is.sorts_fit is.funs_fit good; good = good; spelled = all_spelled l each; has_sorts = is.has_sorts; has_pools = is.has_pools;
-          sorts_fit = is.sorts_fit; funs_fit = is.funs_fit;
+          states = states_all l is.sorts_fit is.funs_fit good;
+          good = good;
+          spelled = all_spelled l each;
+          has_sorts = is.has_sorts;
+          has_pools = is.has_pools;
+          sorts_fit = is.sorts_fit;
+          funs_fit = is.funs_fit;
         })

@@ -27,27 +27,72 @@ use Rattle.law_types.proofs.Gathered.{IsQuiet, IsBrief, per_con, per_sort, per_s
 
 vars_brief : (n : ℕ) → IsBrief (vars_of n)
 vars_brief n = record {
-  quiet = record { head = refl; head2 = refl; head3 = refl; vars = λ n. refl; size = λ n. refl; width = λ n. refl; budget = λ n. refl; pairs = λ n. refl;
-    given_line = refl; seed_line = λ s h c. refl; match_line = λ n. refl; body_line = λ t. refl; case_line = λ c t. refl; pool_line = refl;
-    values_line = λ s v. refl; end_line = refl };
+  quiet = record {
+    head = refl;
+    head2 = refl;
+    head3 = refl;
+    vars = λ n. refl;
+    size = λ n. refl;
+    width = λ n. refl;
+    budget = λ n. refl;
+    pairs = λ n. refl;
+    given_line = refl;
+    seed_line = λ s h c. refl;
+    match_line = λ n. refl;
+    body_line = λ t. refl;
+    case_line = λ c t. refl;
+    pool_line = refl;
+    values_line = λ s v. refl;
+    end_line = refl;
+  };
   explore = λ n. refl;
   sides = λ l r. refl;
 }
 
 width_brief : (n : ℕ) → IsBrief (width_of n)
 width_brief n = record {
-  quiet = record { head = refl; head2 = refl; head3 = refl; vars = λ n. refl; size = λ n. refl; width = λ n. refl; budget = λ n. refl; pairs = λ n. refl;
-    given_line = refl; seed_line = λ s h c. refl; match_line = λ n. refl; body_line = λ t. refl; case_line = λ c t. refl; pool_line = refl;
-    values_line = λ s v. refl; end_line = refl };
+  quiet = record {
+    head = refl;
+    head2 = refl;
+    head3 = refl;
+    vars = λ n. refl;
+    size = λ n. refl;
+    width = λ n. refl;
+    budget = λ n. refl;
+    pairs = λ n. refl;
+    given_line = refl;
+    seed_line = λ s h c. refl;
+    match_line = λ n. refl;
+    body_line = λ t. refl;
+    case_line = λ c t. refl;
+    pool_line = refl;
+    values_line = λ s v. refl;
+    end_line = refl;
+  };
   explore = λ n. refl;
   sides = λ l r. refl;
 }
 
 weight_brief : IsBrief weight_of
 weight_brief = record {
-  quiet = record { head = refl; head2 = refl; head3 = refl; vars = λ n. refl; size = λ n. refl; width = λ n. refl; budget = λ n. refl; pairs = λ n. refl;
-    given_line = refl; seed_line = λ s h c. refl; match_line = λ n. refl; body_line = λ t. refl; case_line = λ c t. refl; pool_line = refl;
-    values_line = λ s v. refl; end_line = refl };
+  quiet = record {
+    head = refl;
+    head2 = refl;
+    head3 = refl;
+    vars = λ n. refl;
+    size = λ n. refl;
+    width = λ n. refl;
+    budget = λ n. refl;
+    pairs = λ n. refl;
+    given_line = refl;
+    seed_line = λ s h c. refl;
+    match_line = λ n. refl;
+    body_line = λ t. refl;
+    case_line = λ c t. refl;
+    pool_line = refl;
+    values_line = λ s v. refl;
+    end_line = refl;
+  };
   explore = λ n. refl;
   sides = λ l r. refl;
 }
@@ -156,14 +201,44 @@ told_weights l fit fits = per_symbol weight_of weight_brief (λ c. short c.weigh
 -- Explored names and background
 
 explored_quiet : (text : Whole) → IsQuiet (explored_of text)
-explored_quiet text = record { head = refl; head2 = refl; head3 = refl; vars = λ n. refl; size = λ n. refl; width = λ n. refl; budget = λ n. refl; pairs = λ n. refl;
-  given_line = refl; seed_line = λ s h c. refl; match_line = λ n. refl; body_line = λ t. refl; case_line = λ c t. refl; pool_line = refl;
-  values_line = λ s v. refl; end_line = refl }
+explored_quiet text = record {
+  head = refl;
+  head2 = refl;
+  head3 = refl;
+  vars = λ n. refl;
+  size = λ n. refl;
+  width = λ n. refl;
+  budget = λ n. refl;
+  pairs = λ n. refl;
+  given_line = refl;
+  seed_line = λ s h c. refl;
+  match_line = λ n. refl;
+  body_line = λ t. refl;
+  case_line = λ c t. refl;
+  pool_line = refl;
+  values_line = λ s v. refl;
+  end_line = refl;
+}
 
 equation_quiet : (text : Whole) → IsQuiet (equation_of text)
-equation_quiet text = record { head = refl; head2 = refl; head3 = refl; vars = λ n. refl; size = λ n. refl; width = λ n. refl; budget = λ n. refl; pairs = λ n. refl;
-  given_line = refl; seed_line = λ s h c. refl; match_line = λ n. refl; body_line = λ t. refl; case_line = λ c t. refl; pool_line = refl;
-  values_line = λ s v. refl; end_line = refl }
+equation_quiet text = record {
+  head = refl;
+  head2 = refl;
+  head3 = refl;
+  vars = λ n. refl;
+  size = λ n. refl;
+  width = λ n. refl;
+  budget = λ n. refl;
+  pairs = λ n. refl;
+  given_line = refl;
+  seed_line = λ s h c. refl;
+  match_line = λ n. refl;
+  body_line = λ t. refl;
+  case_line = λ c t. refl;
+  pool_line = refl;
+  values_line = λ s v. refl;
+  end_line = refl;
+}
 
 -- from the start to the explored names
 to_tail : {A : Type 0} (f : RawLine → List A) → IsQuiet f → (l : Layout) → ((v : Version) (s : SortRow) → f (sort_line v s) ≡ [])

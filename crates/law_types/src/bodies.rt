@@ -44,11 +44,7 @@ fn tree_over(text: &Whole, head: &RawHead, args: Seq<Tree>) -> Tree
 }
 
 /// The term that a side or a value states.
-pub(crate) fn stated_tree(
-    alloc: Global,
-    text: &Whole,
-    term: &RawTerm,
-) -> Result<Tree, NoMemory>
+pub(crate) fn stated_tree(alloc: Global, text: &Whole, term: &RawTerm) -> Result<Tree, NoMemory>
     ensures { IfOk result (λ tree. tree ≡ stated_tree text.now term.now) }
 {
     let mut args = Seq::new(alloc);

@@ -27,7 +27,11 @@ fn makes(symbol: &Sym, sort: SortId) -> bool
 }
 
 /// The constructors of a sort, in order of number.
-pub(crate) fn constructors(alloc: Global, symbols: &[Sym], sort: SortId) -> Result<Seq<SymId>, NoMemory>
+pub(crate) fn constructors(
+    alloc: Global,
+    symbols: &[Sym],
+    sort: SortId,
+) -> Result<Seq<SymId>, NoMemory>
     ensures { IfOk result (λ found. found ≡ constructors_from 0 symbols.now sort) }
 {
     let mut found = Seq::new(alloc);

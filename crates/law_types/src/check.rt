@@ -11,9 +11,9 @@ use crate::errors::{TypeErr, TypeKind};
 use crate::heights::lows_at;
 use crate::lines::{body_fault, con_fault, fun_fault, out_of, own_sorts, sort_fault};
 use crate::seen::Seen;
+use crate::stated::stated;
 use crate::tail::{background_fault, explored_faults, pool_fault, seed_fault, values_fault};
 use crate::terms::sort_at;
-use crate::stated::stated;
 use crate::whole::{Whole, read_whole};
 use law_read::{RawLine, RawSig};
 use law_sig::{NoMemory, Seq, Sig, SymId};
@@ -163,11 +163,7 @@ pub fn check_lines(alloc: Global, lines: &[RawLine]) -> Result<(), TypeErr>
 }
 
 /// The signature that the lines of a text without faults state.
-fn build_stated(
-    alloc: Global,
-    prepared: Prepared,
-    lines: &[RawLine],
-) -> Result<Sig, NoMemory>
+fn build_stated(alloc: Global, prepared: Prepared, lines: &[RawLine]) -> Result<Sig, NoMemory>
     requires raw { IsRawSig lines.now }
     requires text { prepared.text ≡ whole lines.now }
     requires rows { AreRows prepared.text prepared.rows }

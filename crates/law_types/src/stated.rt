@@ -166,7 +166,11 @@ fn pool(alloc: Global, text: &Whole, lines: &[RawLine]) -> Result<Seq<Seq<Tree>>
 {
     let mut found = Seq::new(alloc);
     for line in lines {
-        let RawLine::Values { sort: _, values: terms } = line else {
+        let RawLine::Values {
+            sort: _,
+            values: terms,
+        } = line
+        else {
             return Ok(found);
         };
         found.push(values(alloc, text, terms.as_slice())?)?;
@@ -175,11 +179,7 @@ fn pool(alloc: Global, text: &Whole, lines: &[RawLine]) -> Result<Seq<Seq<Tree>>
 }
 
 /// The pools that stand in the text.
-fn pools(
-    alloc: Global,
-    text: &Whole,
-    lines: &[RawLine],
-) -> Result<Seq<Seq<Seq<Tree>>>, NoMemory>
+fn pools(alloc: Global, text: &Whole, lines: &[RawLine]) -> Result<Seq<Seq<Seq<Tree>>>, NoMemory>
     ensures { IfOk result (λ found. found ≡ stated_pools text.now lines.now) }
 {
     let mut found = Seq::new(alloc);

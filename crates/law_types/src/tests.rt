@@ -339,6 +339,14 @@ fn a_sort_has_a_value(rt: HostRuntime) {
     );
 }
 
+/// A name that isn't a sort counts as having a value, of height 1.
+#[test]
+fn a_field_of_an_unknown_sort(rt: HostRuntime) {
+    let alloc = rt.alloc();
+    let lines = put(take_out(addition(alloc), 10), 9, con(alloc, "Z", &["Nut"]));
+    assert_eq!(rt; answer(alloc, lines), at(9, TypeKind::UnknownSort));
+}
+
 #[test]
 fn a_constructor(rt: HostRuntime) {
     let alloc = rt.alloc();
