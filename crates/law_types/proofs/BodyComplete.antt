@@ -99,7 +99,7 @@ pub record Over (o : Option Sym) (ps : List Part) (sort : SortId) : Type 0 where
   pub result : result_of symbol ≡ sort
   pub args : HaveParts ps (args_of symbol)
 
-over_found : (o : Option Sym) (ps : List Part) (sort : SortId) → sort_over o (map (λ (p : Part). p.sort) ps) ≡ Some sort → Over o ps sort
+pub over_found : (o : Option Sym) (ps : List Part) (sort : SortId) → sort_over o (map (λ (p : Part). p.sort) ps) ≡ Some sort → Over o ps sort
 over_found None ps sort e = none_is sort e
 over_found (Some symbol) ps sort e = by (same_sorts (map (λ (p : Part). p.sort) ps) (args_of symbol)) refl e
   where
@@ -107,7 +107,7 @@ over_found (Some symbol) ps sort e = by (same_sorts (map (λ (p : Part). p.sort)
     by true k h = record { symbol = symbol; declared = refl; result = some_is (result_of symbol) sort h; args = have_parts ps (args_of symbol) k }
     by false k h = none_is sort h
 
-where_found : (c : Bool) (o : Option SortId) (sort : SortId) → where_true c o ≡ Some sort → (c ≡ true) × (o ≡ Some sort)
+pub where_found : (c : Bool) (o : Option SortId) (sort : SortId) → where_true c o ≡ Some sort → (c ≡ true) × (o ≡ Some sort)
 where_found true o sort e = (refl, e)
 where_found false o sort e = none_is sort e
 

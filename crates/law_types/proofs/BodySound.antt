@@ -117,7 +117,7 @@ may number owner falling later h = by (nat_lt number owner) refl
         let is : (number == owner) ≡ true = eq-eqb number owner same in
         ap₂ (λ x y. x || (y && falling)) e is ∙ both (number == owner) falling h is
 
-stated_raw : (text : Whole) (h : RawHead) (args : List RawTerm) → stated_body text (raw_term h args) ≡ body_over text h (map (stated_body text) args)
+pub stated_raw : (text : Whole) (h : RawHead) (args : List RawTerm) → stated_body text (raw_term h args) ≡ body_over text h (map (stated_body text) args)
 stated_raw text h args = let l : RawTerm-F RawTerm = record { head = h; args = args } in fold-roll-RawTerm Body (body_step text) l
 
 field_raw : (h : RawHead) (args : List RawTerm) → is_field_term (raw_term h args) ≡ is_field h

@@ -97,7 +97,7 @@ module _ (text : Whole) (parts : SigParts) (formed : IsWellFormed parts) (sorts 
   sorts_again [] h = refl
   sorts_again (s ∷ ss) h = ap₂ ◌∷◌ (sort_again s h.0) (sorts_again ss h.1)
 
-  args_again : (f : SymId) (symbol : Sym) → symbol_at parts f ≡ Some symbol → map (sort_id text.sorts) (arg_names parts f) ≡ args_of symbol
+  pub args_again : (f : SymId) (symbol : Sym) → symbol_at parts f ≡ Some symbol → map (sort_id text.sorts) (arg_names parts f) ≡ args_of symbol
   args_again f symbol e = ap (λ o. map (sort_id text.sorts) (map (sort_name parts) (unwrap_or (option_map args_of o) []))) e
       ∙ sorts_again (args_of symbol) (formed.symbols f symbol e).args_declared
 

@@ -31,3 +31,5 @@ pub mod LaidBack
 pub mod DeclaresBack
 pub mod Fine
 pub mod TextBack
+pub mod ReadBack
+pub mod OneSignature

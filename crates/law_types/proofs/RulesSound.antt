@@ -174,7 +174,7 @@ pub record CaseFound (text : Whole) (cs : List CaseRow) (rest : List RawLine) (c
   pub named : slice_get text.names con.0 ≡ Some row.con
   pub case : stated_case text (cases_then cs rest) con ≡ stated_body text row.body
 
-case_found : (text : Whole) (cs : List CaseRow) (rest : List RawLine) (con : SymId) → case_names rest ≡ []
+pub case_found : (text : Whole) (cs : List CaseRow) (rest : List RawLine) (con : SymId) → case_names rest ≡ []
     → has_case text (case_names (cases_then cs rest)) con ≡ true → CaseFound text cs rest con
 case_found text cs rest con none e = by (slice_get text.names con.0) refl e
   where

@@ -195,7 +195,7 @@ all_stand text parts scope (w ∷ ws) (t ∷ ts) have count e =
       valued = λ h. ap₂ ◌&&◌ (s.valued h) (r.valued h);
     }
 
-stated_raw : (text : Whole) (h : RawHead) (args : List RawTerm) → stated_tree text (raw_term h args) ≡ tree_over text h (map (stated_tree text) args)
+pub stated_raw : (text : Whole) (h : RawHead) (args : List RawTerm) → stated_tree text (raw_term h args) ≡ tree_over text h (map (stated_tree text) args)
 stated_raw text h args = let l : RawTerm-F RawTerm = record { head = h; args = args } in fold-roll-RawTerm Tree (stated_step text) l
 
 root_raw : (text : Whole) (h : RawHead) (args : List RawTerm) → root_sort text (raw_term h args) ≡ head_sort text h

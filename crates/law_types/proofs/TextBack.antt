@@ -63,14 +63,14 @@ use Rattle.law_types.proofs.Fine.{Counts, out_none, not_numbered, counts_sorts, 
 
 -- The rest of the lines in their parts
 
-abbrev sides_row : SigParts → Equation → SidesRow
+abbrev pub sides_row : SigParts → Equation → SidesRow
 sides_row parts e = record { left = named_term parts e.left; right = named_term parts e.right }
 
-abbrev values_rows : SigParts → ℕ → List (List Tree) → List ValuesRow
+abbrev pub values_rows : SigParts → ℕ → List (List Tree) → List ValuesRow
 values_rows parts k [] = []
 values_rows parts k (vs ∷ pool) = record { sort = sort_name parts (record { 0 = k }); values = map (named_term parts) vs } ∷ values_rows parts (suc k) pool
 
-abbrev pool_rows : SigParts → PoolRule → PoolRows
+abbrev pub pool_rows : SigParts → PoolRule → PoolRows
 pool_rows parts (rule.Given pools) = given (map (values_rows parts 0) pools)
 pool_rows parts (rule.Seeded s h c) = seeded s h c
 
@@ -332,16 +332,16 @@ module _ (lines : List RawLine) (parts : SigParts) (t : IsTypedAs lines parts) w
   abbrev ids : List SortId
   ids = nums sort_no 0 parts.sort_names
 
-  ids_are : sort_ids parts ≡ nums sort_no 0 parts.sort_names
+  pub ids_are : sort_ids parts ≡ nums sort_no 0 parts.sort_names
   ids_are = first_nums (λ n. record { 0 = n }) sort_no 0 parts.sort_names (λ i. ap sort_no (zero_plus i))
 
-  by_number : (i : ℕ) (s : Sym) → slice_get parts.symbols i ≡ Some s → symbol_at parts (record { 0 = 0 + i }) ≡ Some s
+  pub by_number : (i : ℕ) (s : Sym) → slice_get parts.symbols i ≡ Some s → symbol_at parts (record { 0 = 0 + i }) ≡ Some s
   by_number i s e = ap (slice_get parts.symbols) (sym (zero_plus i)) ∙ e
 
-  funs : FunsBack t.version parts 0 parts.symbols t.functions
+  pub funs : FunsBack t.version parts 0 parts.symbols t.functions
   funs = funs_back t.version parts t.well_formed t.fits 0 parts.symbols t.functions by_number t.function_lines
 
-  abbrev laid : Layout
+  abbrev pub laid : Layout
   laid = record {
     version = t.version;
     size = parts.settings.size;
@@ -363,7 +363,7 @@ module _ (lines : List RawLine) (parts : SigParts) (t : IsTypedAs lines parts) w
       (sides_back parts parts.settings.background (given_lines parts parts.settings.pools ++ line.End ∷ [])
       ∙ ap (background_then (map (sides_row parts) parts.settings.background)) (ends_back parts parts.settings.pools))
 
-  lines_laid : lines ≡ layout_lines laid
+  pub lines_laid : lines ≡ layout_lines laid
   lines_laid = t.lines_are
       ∙ start_back t.version parts (joined (map (sort_block t.version parts) (sort_ids parts)) ++ (t.functions ++ rest_lines))
       ∙ ap (start_then t.version parts.settings.size parts.settings.budget parts.settings.pairs (pool_rows parts parts.settings.pools))
@@ -374,10 +374,10 @@ module _ (lines : List RawLine) (parts : SigParts) (t : IsTypedAs lines parts) w
   all_within : 0 + length parts.sort_names ≤ length parts.sort_names
   all_within = omega arith
 
-  fit : Each (FitsSortRow t.version) (map (sort_row parts) (nums sort_no 0 parts.sort_names))
+  pub fit : Each (FitsSortRow t.version) (map (sort_row parts) (nums sort_no 0 parts.sort_names))
   fit = rows_fit t.version parts t.well_formed t.fits 0 parts.sort_names all_within
 
-  numbers : joined (map (constructors parts) (nums sort_no 0 parts.sort_names)) ++ functions_from 0 parts.symbols ≡ first_of (length parts.symbols) (λ n. record { 0 = n })
+  pub numbers : joined (map (constructors parts) (nums sort_no 0 parts.sort_names)) ++ functions_from 0 parts.symbols ≡ first_of (length parts.symbols) (λ n. record { 0 = n })
   numbers = ap (λ i. joined (map (constructors parts) i) ++ functions_from 0 parts.symbols) (sym ids_are) ∙ t.numbered
 
   counts : Counts 0 (joined (map (constructors parts) (nums sort_no 0 parts.sort_names)) ++ functions_from 0 parts.symbols)
@@ -413,7 +413,7 @@ module _ (lines : List RawLine) (parts : SigParts) (t : IsTypedAs lines parts) w
       ∙ sym (map-append H (joined (map (constructors parts) (nums sort_no 0 parts.sort_names))) (functions_from 0 parts.symbols))
       ∙ ap (map H) numbers ∙ by_places (λ k. record { 0 = k }) H None (map Some (map headed parts.symbols)) (length parts.symbols) count (λ k. get_somes parts.symbols k))
 
-  declares : Declares (whole (layout_lines laid)) parts
+  pub declares : Declares (whole (layout_lines laid)) parts
   declares = record {
     sorts = sorts_told;
     names = names_told;
@@ -421,7 +421,7 @@ module _ (lines : List RawLine) (parts : SigParts) (t : IsTypedAs lines parts) w
     vars = told_vars laid fit ∙ per_sort (λ s. s.vars) (vars_at parts) 0 parts.settings.vars t.well_formed.settings.vars.one_each (λ s. refl) (λ k. refl);
   }
 
-  same_widths : (whole (layout_lines laid)).widths ≡ parts.settings.width
+  pub same_widths : (whole (layout_lines laid)).widths ≡ parts.settings.width
   same_widths = told_widths laid fit ∙ per_sort (λ s. s.width) (width_at parts) 1 parts.settings.width t.well_formed.settings.width.one_each (λ s. refl) (λ k. refl)
 
   start_fine : (text : Whole) (v : Version) → FitsVersion v parts → (ps : PoolRows) (rest : List RawLine) → NoFaults text nothing_seen (rule_line ps ∷ rest)

@@ -9,3 +9,4 @@ pub mod LineFaults
 pub mod Naming
 pub mod Typed
 pub mod Stated
+pub mod Laws

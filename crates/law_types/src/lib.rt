@@ -6,6 +6,7 @@ mod cases;
 mod check;
 mod errors;
 mod heights;
+mod laws;
 mod lines;
 mod names;
 mod naming;
@@ -22,6 +23,7 @@ mod whole;
 
 pub use check::{check_lines, check_sig};
 pub use errors::{TypeErr, TypeKind};
+pub use laws::typing_laws;
 pub use naming::{name_of_sort, name_of_symbol, raw_term};
 pub use pools::pool_lines;
 pub use typing::typed;
