@@ -4,6 +4,8 @@ use Rattle.std.proofs.lemmas.List.{length-append, append-nil}
 use Rattle.law_io.specs.Counts.{Rose}
 use Rattle.law_read.proofs.FirstFaults.{one_fault_law}
 use Rattle.law_read.proofs.Whole.{one_text_law}
+use Rattle.law_types.proofs.OneSignature.{one_signature}
+use Rattle.law_types.proofs.TextBack.{back}
 use Rattle.law_cli.specs.Reading.{WasRead, GaveTooMany}
 use Rattle.law_cli.specs.Answers.{IsStated, IsAnswerTo}
 use Rattle.law_cli.specs.Promise.{most_bytes, CanSucceed}
@@ -13,7 +15,7 @@ use Rattle.law_cli.proofs.OneAnswer.{Below, good_is_listed}
 
 -- what the crates below prove
 pub below : Below
-below = record { text = one_text_law; fault = one_fault_law; faultless = ?; signature = ? }
+below = record { text = one_text_law; fault = one_fault_law; faultless = λ lines parts raw typed. back lines parts typed; signature = one_signature }
 
 -- what was read to the end is all that was told
 all_read : (before now : Option (List ℕ)) (bytes told : List ℕ) (most : ℕ) → before ≡ Some told → WasRead before now bytes most → told ≡ bytes
