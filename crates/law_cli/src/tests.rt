@@ -192,6 +192,228 @@ fn lines_that_state_no_signature(rt: HostRuntime) -> Result<(), Fail> {
     Ok(())
 }
 
+const TWO_SORTS: &str =
+    "signature 1\nvars 2\nsize 3\nwidth 2\nbudget 10\npairs 20\npools given\nsort N\ncon Z\ncon S N\nsort B\ncon F\ncon T\nfun and B B -> B\nmatch 0\ncase F = F\ncase T = #1\nfun add N N -> N\nmatch 0\ncase Z = #1\ncase S = S (add @0 #1)\nfun low N -> B\nbody = T\nexplore and add\nbackground and F B.0 = F\npool\nvalues N Z (S Z)\nvalues B F T\nend\n";
+
+// In these tables each line shows a second fault of another kind, where its kind of line can, and the first is told.
+#[test]
+fn first_faults_of_declarations(rt: HostRuntime) -> Result<(), Fail> {
+    let alloc = rt.alloc();
+    assert_eq!(rt; printed(alloc, &["plain"], TWO_SORTS, 64)?.0, 0);
+    for (from, to, line) in [
+        ("vars 2", "vars 9", "line 2: SettingRange\n"),
+        ("size 3", "size 33", "line 3: SettingRange\n"),
+        ("width 2", "width 17", "line 4: SettingRange\n"),
+        ("budget 10", "budget 0", "line 5: SettingRange\n"),
+        ("pairs 20", "pairs 4097", "line 6: SettingRange\n"),
+        (
+            "sort B\ncon F\n",
+            "sort N\ncon F E\nsort E\ncon e E\n",
+            "line 11: NameTwice\n",
+        ),
+        (
+            "sort B\ncon F\ncon T\n",
+            "sort B\ncon F E\nsort E\ncon e E\n",
+            "line 11: EmptySort\n",
+        ),
+        ("con F\n", "con Z Nut\n", "line 12: NameTwice\n"),
+        ("con F\n", "con F Nut\n", "line 12: UnknownSort\n"),
+        (
+            "fun add N N -> N",
+            "fun and Nut N -> N",
+            "line 18: NameTwice\n",
+        ),
+        (
+            "fun add N N -> N",
+            "fun add Nut N -> Not",
+            "line 18: UnknownSort\n",
+        ),
+        ("match 0\ncase Z", "match 7\ncase Z", "line 19: Arity\n"),
+        ("case Z = #1\n", "", "line 19: CaseMissing\n"),
+    ] {
+        assert!(rt; refuses_changed(alloc, TWO_SORTS, from, to, 3, line)?);
+    }
+    Ok(())
+}
+
+#[test]
+fn first_faults_of_rules(rt: HostRuntime) -> Result<(), Fail> {
+    let alloc = rt.alloc();
+    for (from, to, line) in [
+        (
+            "fun low",
+            "case Zed = #9\nfun low",
+            "line 22: UnknownName\n",
+        ),
+        (
+            "fun low",
+            "case low = #9\nfun low",
+            "line 22: UnknownName\n",
+        ),
+        ("fun low", "case F = #9\nfun low", "line 22: SortMismatch\n"),
+        (
+            "fun low",
+            "case and = #9\nfun low",
+            "line 22: SortMismatch\n",
+        ),
+        ("fun low", "case S = #9\nfun low", "line 22: CaseTwice\n"),
+        ("case Z = #1", "case Z = #9", "line 20: Arity\n"),
+        ("S (add @0 #1)", "zip #9", "line 21: UnknownName\n"),
+        ("S (add @0 #1)", "S (low @0 @0)", "line 21: LaterCall\n"),
+        ("S (add @0 #1)", "and @0", "line 21: Arity\n"),
+        ("S (add @0 #1)", "and zip F", "line 21: SortMismatch\n"),
+        ("S (add @0 #1)", "S (add #0 zip)", "line 21: NotSmaller\n"),
+        ("S (add @0 #1)", "S (add @0 zip)", "line 21: UnknownName\n"),
+        ("body = T", "body = @0", "line 23: Arity\n"),
+    ] {
+        assert!(rt; refuses_changed(alloc, TWO_SORTS, from, to, 3, line)?);
+    }
+    let pick = changed(
+        alloc,
+        TWO_SORTS,
+        "fun add N N",
+        "fun pick B N -> N\nbody = #1\nfun add N N",
+    )?;
+    assert!(rt;
+        refuses_changed(
+            alloc,
+            pick.as_str(),
+            "S (add @0 #1)",
+            "S (pick (add #0 #1) Z)",
+            3,
+            "line 23: SortMismatch\n"
+        )?
+    );
+    Ok(())
+}
+
+#[test]
+fn first_faults_behind_the_functions(rt: HostRuntime) -> Result<(), Fail> {
+    let alloc = rt.alloc();
+    for (from, to, line) in [
+        (
+            "explore and add",
+            "explore and zip and",
+            "line 24: UnknownName\n",
+        ),
+        (
+            "explore and add",
+            "explore and and zip",
+            "line 24: NameTwice\n",
+        ),
+        ("and F B.0 = F", "and F Nut.9 = F", "line 25: UnknownSort\n"),
+        ("and F B.0 = F", "add B.9 Z = Z", "line 25: SettingRange\n"),
+        (
+            "and F B.0 = F",
+            "and F zip = Nut.0",
+            "line 25: UnknownName\n",
+        ),
+        ("and F B.0 = F", "F = S zip", "line 25: UnknownName\n"),
+        ("and F B.0 = F", "F = Z", "line 25: SortMismatch\n"),
+        ("values B F T\n", "", "line 26: Arity\n"),
+        ("values B F T", "values Nut F", "line 28: UnknownSort\n"),
+        ("values B F T", "values N Z", "line 28: SortMismatch\n"),
+        ("values B F T", "values B zip", "line 28: Arity\n"),
+        (
+            "values B F T",
+            "values B (and zip F) T",
+            "line 28: UnknownName\n",
+        ),
+    ] {
+        assert!(rt; refuses_changed(alloc, TWO_SORTS, from, to, 3, line)?);
+    }
+    let mut pools = String::new(alloc);
+    for _ in 0..15 {
+        pools.push_str("pool\nvalues N Z Z\nvalues B F F\n")?;
+    }
+    pools.push_str("pool\nvalues N Z\nend\n")?;
+    assert!(rt;
+        refuses_changed(
+            alloc,
+            TWO_SORTS,
+            "end\n",
+            pools.as_str(),
+            3,
+            "line 74: SettingRange\n"
+        )?
+    );
+    Ok(())
+}
+
+const THIRD: &str =
+    "signature 3\nsize 3\nbudget 10\npairs 20\npools seed 1 height 1 count 1\nsort B 2 2\ncon 1 F\ncon 1 T\nfun 1 and B B -> B\nmatch 0\ncase F = F\ncase T = #1\nexplore and\nend\n";
+
+#[test]
+fn first_faults_of_later_versions(rt: HostRuntime) -> Result<(), Fail> {
+    let alloc = rt.alloc();
+    assert_eq!(rt; printed(alloc, &["plain"], THIRD, 64)?.0, 0);
+    for (from, to, line) in [
+        ("height 1", "height 17", "line 5: SettingRange\n"),
+        ("count 1", "count 17", "line 5: SettingRange\n"),
+        (
+            "fun 1",
+            "sort P 0 1\ncon 1 p B\nfun 1",
+            "line 5: SettingRange\n",
+        ),
+        ("sort B 2 2", "sort B 9 2", "line 6: SettingRange\n"),
+        ("sort B 2 2", "sort B 2 17", "line 6: SettingRange\n"),
+        ("fun 1", "sort B 9 2\ncon 1 G\nfun 1", "line 9: NameTwice\n"),
+        (
+            "fun 1",
+            "sort E 9 2\ncon 1 e E\nfun 1",
+            "line 9: EmptySort\n",
+        ),
+        ("con 1 T", "con 5 F", "line 8: NameTwice\n"),
+        ("con 1 T", "con 5 T Nut", "line 8: UnknownSort\n"),
+        ("con 1 T", "con 5 T", "line 8: SettingRange\n"),
+        ("fun 1 and B B", "fun 5 F B B", "line 9: NameTwice\n"),
+        ("fun 1 and B B", "fun 5 and B Nut", "line 9: UnknownSort\n"),
+        ("fun 1 and B B", "fun 0 and B B", "line 9: SettingRange\n"),
+    ] {
+        assert!(rt; refuses_changed(alloc, THIRD, from, to, 3, line)?);
+    }
+    Ok(())
+}
+
+#[test]
+fn a_sort_too_many(rt: HostRuntime) -> Result<(), Fail> {
+    let alloc = rt.alloc();
+    let mut sorts = String::new(alloc);
+    for at in 0..64u32 {
+        let digits = [
+            (b'a' + (at / 8) as u8) as char,
+            (b'a' + (at % 8) as u8) as char,
+        ];
+        sorts.push_str("sort Q")?;
+        for digit in digits {
+            sorts.push(digit)?;
+        }
+        sorts.push_str("\ncon c")?;
+        for digit in digits {
+            sorts.push(digit)?;
+        }
+        sorts.push_str("\n")?;
+    }
+    sorts.push_str("explore\nend\n")?;
+    let mut text = String::from_str(
+        alloc,
+        "signature 1\nvars 0\nsize 1\nwidth 1\nbudget 9\npairs 0\npools seed 1 height 1 count 1\n",
+    )?;
+    text.push_str(sorts.as_str())?;
+    assert_eq!(rt; printed(alloc, &["plain"], text.as_str(), 4096)?.0, 0);
+    assert!(rt;
+        refuses_changed(
+            alloc,
+            text.as_str(),
+            "explore",
+            "sort Qaa\ncon c\nexplore",
+            3,
+            "line 136: SettingRange\n"
+        )?
+    );
+    Ok(())
+}
+
 #[test]
 fn budgets_and_backgrounds(rt: HostRuntime) -> Result<(), Fail> {
     let alloc = rt.alloc();
