@@ -19,6 +19,6 @@ pub fn plain(alloc: Global, sig: &Sig) -> Result<Seq<Equation>, NoMemory>
 {
     let terms = universe(alloc, sig)?;
     let vectors = vectors(alloc, sig, values(sig), tests(sig), terms.as_slice())?;
-    let firsts = first_same(alloc, vectors.as_slice())?;
+    let firsts = first_same(alloc, vectors)?;
     equations(alloc, terms.as_slice(), firsts.as_slice())
 }
