@@ -1,5 +1,5 @@
 -- When no question has an answer, and that there is one refusal.
-use Rattle.std.proofs.Common.{◌≡◌, ℕ, ◌+◌, ◌<◌, ◌≤◌, ◌⊎◌, inl, inr, Bool, true, false, true≢false, nat_lt, ltb-true, lt-ltb, if◌then◌else◌, Option, Some, None, IsSome, List, length, slice_get, sym, refl, ap, ap₂, ◌∙◌, subst, arith}
+use Rattle.std.proofs.Common.{◌≡◌, ℕ, ◌+◌, ◌<◌, ◌≤◌, ◌⊎◌, inl, inr, Bool, true≢false, lt-ltb, if◌then◌else◌, Option, Some, None, IsSome, List, length, slice_get, sym, refl, ap, ap₂, ◌∙◌, subst, arith}
 use Rattle.std.proofs.lemmas.Bool.{cases_lt}
 use Rattle.std.proofs.Math.Nat.{eq-or-lt_of_le}
 use Rattle.law_sig.specs.Lists.{Each}
@@ -15,7 +15,7 @@ use Rattle.law_laws.proofs.Orders.{before_decided}
 use Rattle.law_gen.specs.Draws.{pools_by}
 use Rattle.law_gen.specs.Sizes.{AreSmall, IsFirstIn}
 use Rattle.law_explore.specs.Refusals.{Refusal, OrElse, IsFirstAnswer, HasManyAssignments, HasManyTerms, HasLargeValue, HasSmallValues, Breaks, BreaksAt, HasBrokenBackground, LacksValue, HasLackingTerm, IsRefusal}
-use Rattle.law_explore.specs.Refusals.Refusal.{Assignments, TooManyTerms, ValueTooLarge, Over}
+use Rattle.law_explore.specs.Refusals.Refusal.{ValueTooLarge, Over}
 use Rattle.law_explore.specs.Refusals.Breaks.{left_over, right_over, differs}
 use Rattle.law_explore.specs.LawList.{IsBackgroundTrue, OneRefusal, NoneWithin}
 use Rattle.law_explore.proofs.Rising.{at_place}

@@ -13,7 +13,7 @@ use Rattle.law_sig.specs.declared.tree.Tree.{Tree}
 use Rattle.law_sig.specs.declared.tree.Tree.TheVariants.{Var, App}
 use Rattle.law_sig.specs.declared.parts.SigParts.{SigParts}
 use Rattle.law_laws.specs.Renaming.{has_vars}
-use Rattle.law_laws.proofs.Renaming.{vars-Var, vars-App}
+use Rattle.law_laws.proofs.Renaming.{vars-App}
 use Rattle.law_laws.proofs.Sorts.{HaveSorts, sorted_app}
 use Rattle.law_laws.proofs.TreeFacts.{val-Var, val-App}
 use Rattle.law_value.specs.declared.bank.ValueId.{ValueId}

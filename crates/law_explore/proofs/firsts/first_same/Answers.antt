@@ -1,4 +1,4 @@
-use Rattle.std.proofs.Common.{rules, arith, length-append, ◌≡◌, List, [], ◌++◌, length, map, sym, ap, ◌∙◌, subst}
+use Rattle.std.proofs.Common.{rules, arith, length-append, ◌≡◌, length, map, sym, ap, ◌∙◌, subst}
 use Rattle.std.proofs.lemmas.List.{length-map}
 use Rattle.std.specs.Map.{lookup}
 use Rattle.indexmap.specs.IndexMap.{get}
