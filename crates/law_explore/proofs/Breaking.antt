@@ -1,5 +1,5 @@
 -- What an error tells, and background equations that hold or break.
-use Rattle.std.proofs.Common.{◌≡◌, ◌≢◌, ℕ, zero, suc, ◌+◌, ◌<◌, ◌≤◌, inl, inr, Option, Some, None, IsSome, Result, Ok, Err, IfErr, IfOk, List, [], ◌∷◌, length, take, slice_get, slice_index_or, sym, refl, ap, ◌∙◌, subst, arith}
+use Rattle.std.proofs.Common.{◌≡◌, ◌≢◌, ℕ, zero, suc, ◌+◌, ◌<◌, ◌≤◌, inl, inr, Option, Some, None, IsSome, Result, Ok, Err, IfErr, List, [], ◌∷◌, length, take, slice_get, slice_index_or, sym, refl, ap, ◌∙◌, subst, arith}
 use Rattle.std.specs.Result.{IsErrAnd}
 use Rattle.std.proofs.lemmas.Bool.{cases_lt}
 use Rattle.std.proofs.lemmas.Option.{slice_get-get_or}
@@ -18,6 +18,7 @@ use Rattle.law_explore.specs.Refusals.{Refusal, IsFirstAnswer, Breaks, HasBroken
 use Rattle.law_explore.specs.Refusals.Breaks.{left_over, right_over, differs}
 use Rattle.law_explore.specs.Values.{ArePools, IsValue, IsLacking, HoldsAt, tests_by, val_by}
 use Rattle.law_explore.proofs.Testing.{value_stays}
+use Rattle.law_explore.proofs.LawFacts.{some_is}
 
 -- what follows from what an error tells, it tells too
 pub told_on : (parts : SigParts) (P Q : Refusal → Type 0) → ((r : Refusal) → P r → Q r) → (e : ExploreErr) → IsTold parts P e → IsTold parts Q e
@@ -34,18 +35,10 @@ pub handed_on : (parts : SigParts) (P Q : Refusal → Type 0) {T : Type 0} (r : 
 handed_on parts P Q (Ok y) x f h told = absurd h
 handed_on parts P Q (Err y) x f h told = subst (IsTold parts Q) (sym h) (told_on parts P Q f x told)
 
--- what follows from what holds of a result
-pub if_ok : {A E : Type 0} (r : Result A E) (P Q : A → Type 0) → ((x : A) → P x → Q x) → IfOk r P → IfOk r Q
-if_ok (Ok x) P Q f h = f x h
-if_ok (Err e) P Q f h = tt
-
 -- the number of tests
 pub count_is : (parts : SigParts) (bank : List Tree) (table : PoolTable) (n : ℕ) → ArePools parts bank table
     → ((own : SigParts) (b : List Tree) → IsFor own table → n ≡ test_count own (pools_of b table.ids)) → n ≡ tests_by parts
 count_is parts bank table n p is = is parts bank p.fits ∙ ap (test_count parts) p.are
-
-some_is : {A : Type 0} {x y : A} → Some x ≡ Some y → x ≡ y
-some_is e = cc
 
 -- One equation at a test
 

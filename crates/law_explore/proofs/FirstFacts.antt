@@ -1,9 +1,10 @@
 -- The first places of the vectors so far, and the table that finds them.
-use Rattle.std.proofs.Common.{◌≡◌, ℕ, zero, suc, ◌+◌, ◌<◌, ◌≤◌, ◌⊎◌, inl, inr, Bool, true, false, if◌then◌else◌, List, [], ◌∷◌, ◌++◌, length, Option, Some, None, slice_get, MatchOption, Vec, arith, sym, ap, ◌∙◌, refl, subst}
+use Rattle.std.proofs.Common.{◌≡◌, ℕ, zero, suc, ◌+◌, ◌<◌, ◌≤◌, ◌⊎◌, inl, inr, Bool, true, false, if◌then◌else◌, List, [], ◌∷◌, ◌++◌, length, map, option_map, append_assoc, Option, Some, None, slice_get, MatchOption, Vec, arith, sym, ap, ◌∙◌, refl, subst}
 use Rattle.std.specs.declared.alloc.Global.{Global}
 use Rattle.std.proofs.lemmas.Bool.{cases_lt}
 use Rattle.std.proofs.Math.Path.{subst₂}
 use Rattle.std.proofs.lemmas.List.{length_push}
+use Rattle.std.proofs.lemmas.Option.{slice_get-map}
 use lib.Pointwise.{bytes_decides}
 use Rattle.law_explore.specs.Firsts.{IsFirstSame, AreFirsts, same_items, IsNoted, KnowsBefore}
 
@@ -116,3 +117,24 @@ finds_none vectors found none v =
 -- all of them
 pub all_firsts : (vectors : List (List ℕ)) (at : ℕ) (firsts : List ℕ) → at ≡ length vectors → FirstsTo vectors at firsts → AreFirsts vectors firsts
 all_firsts vectors at firsts end so_far = record { one_each = so_far.so_many ∙ end; each = so_far.each }
+
+-- one vector more, where the vectors are taken out of their list one by one
+pub one_taken : (all yielded rest left : List (Vec ℕ Global)) (v : Vec ℕ Global) (at : ℕ) (old new : Vec ℕ Global → Option ℕ) (first : ℕ) (firsts more : List ℕ)
+    → yielded ++ rest ≡ all → rest ≡ v ∷ left → at ≡ length firsts
+    → KnowsBefore (map (λ w. w.items) all) (length yielded) old → FirstsTo (map (λ w. w.items) all) (length yielded) firsts → IsNoted old new v at first → more ≡ firsts ++ first ∷ []
+    → ((yielded ++ v ∷ []) ++ left ≡ all) × KnowsBefore (map (λ w. w.items) all) (length (yielded ++ v ∷ [])) new × FirstsTo (map (λ w. w.items) all) (length (yielded ++ v ∷ [])) more
+one_taken all yielded rest left v at old new first firsts more whole taken counted known so_far noted grows =
+    let place : at ≡ length yielded = counted ∙ so_far.so_many in
+    let is : yielded ++ v ∷ left ≡ all = ap (λ l. yielded ++ l) (sym taken) ∙ whole in
+    let here : slice_get (map (λ w. w.items) all) (length yielded) ≡ Some v.items
+    = slice_get-map (λ (w : Vec ℕ Global). w.items) all (length yielded) ∙ ap (option_map (λ (w : Vec ℕ Global). w.items)) (ap (λ l. slice_get l (length yielded)) (sym is) ∙ at_end yielded) in
+    let (known_too, so_far_too) = one_more (map (λ w. w.items) all) (length yielded) old new v first firsts more here known so_far (subst (λ n. IsNoted old new v n first) place noted) grows in
+    let next : length yielded + 1 ≡ length (yielded ++ v ∷ []) = sym (length_push yielded v) in (
+      append_assoc yielded (v ∷ []) left ∙ is,
+      subst (λ n. KnowsBefore (map (λ w. w.items) all) n new) next known_too,
+      subst (λ n. FirstsTo (map (λ w. w.items) all) n more) next so_far_too,
+    )
+  where
+    at_end : (xs : List (Vec ℕ Global)) → slice_get (xs ++ v ∷ left) (length xs) ≡ Some v
+    at_end [] = refl
+    at_end (x ∷ xs) = at_end xs

@@ -27,13 +27,10 @@ use Rattle.law_explore.specs.Universe.{IsUniverse}
 use Rattle.law_explore.specs.Refusals.{Refusal, LacksValue, HasLackingTerm}
 use Rattle.law_explore.specs.Values.{IsTestable, IsVector, AreVectors, Both, Finds, IsKnown, HasKnownArgs, HasVector, items_of, word}
 use Rattle.law_explore.proofs.BothFacts.{both_at, both_map, both_more}
-use Rattle.law_explore.proofs.LawFacts.{mapped_some}
+use Rattle.law_explore.proofs.LawFacts.{some_is, mapped_some}
 use Rattle.law_explore.proofs.Rising.{place_of, at_place, rising_places}
 use Rattle.law_explore.proofs.VectorFacts.{vector_stays}
 use Rattle.law_explore.proofs.WordFacts.{word_same}
-
-some_is : {A : Type 0} {x y : A} → Some x ≡ Some y → x ≡ y
-some_is e = cc
 
 get_take : {A : Type 0} (xs : List A) (n k : ℕ) (x : A) → k < n → slice_get xs k ≡ Some x → slice_get (take n xs) k ≡ Some x
 get_take [] n k x less e = cc

@@ -27,7 +27,7 @@ pub mapped_some : {A B : Type 0} (f : A → B) (o : Option A) (y : B) → option
 mapped_some f None y e = cc
 mapped_some f (Some x) y e = (x, refl, cc)
 
-some_is : {A : Type 0} {x y : A} → Some x ≡ Some y → x ≡ y
+pub some_is : {A : Type 0} {x y : A} → Some x ≡ Some y → x ≡ y
 some_is e = cc
 
 in_if : (b : Bool) (d : Equation) {e : Equation} → In e (if b then [] else d ∷ []) → (b ≡ false) × (e ≡ d)

@@ -1,5 +1,5 @@
 -- When no question has an answer, and that there is one refusal.
-use Rattle.std.proofs.Common.{◌≡◌, ℕ, ◌+◌, ◌<◌, ◌≤◌, ◌⊎◌, inl, inr, Bool, true, false, true≢false, nat_lt, ltb-true, lt-ltb, if◌then◌else◌, Option, Some, None, IsSome, List, length, slice_get, sym, refl, ap, ap₂, ◌∙◌, subst, arith}
+use Rattle.std.proofs.Common.{◌≡◌, ℕ, ◌+◌, ◌<◌, ◌≤◌, ◌⊎◌, inl, inr, Bool, true≢false, lt-ltb, if◌then◌else◌, Option, Some, None, IsSome, List, length, slice_get, sym, refl, ap, ap₂, ◌∙◌, subst, arith}
 use Rattle.std.proofs.lemmas.Bool.{cases_lt}
 use Rattle.std.proofs.Math.Nat.{eq-or-lt_of_le}
 use Rattle.law_sig.specs.Lists.{Each}
@@ -15,20 +15,14 @@ use Rattle.law_laws.proofs.Orders.{before_decided}
 use Rattle.law_gen.specs.Draws.{pools_by}
 use Rattle.law_gen.specs.Sizes.{AreSmall, IsFirstIn}
 use Rattle.law_explore.specs.Refusals.{Refusal, OrElse, IsFirstAnswer, HasManyAssignments, HasManyTerms, HasLargeValue, HasSmallValues, Breaks, BreaksAt, HasBrokenBackground, LacksValue, HasLackingTerm, IsRefusal}
-use Rattle.law_explore.specs.Refusals.Refusal.{Assignments, TooManyTerms, ValueTooLarge, Over}
+use Rattle.law_explore.specs.Refusals.Refusal.{ValueTooLarge, Over}
 use Rattle.law_explore.specs.Refusals.Breaks.{left_over, right_over, differs}
 use Rattle.law_explore.specs.LawList.{IsBackgroundTrue, OneRefusal, NoneWithin}
 use Rattle.law_explore.proofs.Rising.{at_place}
 use Rattle.law_explore.proofs.Breaking.{HoldsAll, agrees_not, each_got}
+use Rattle.law_explore.proofs.LawFacts.{some_is}
 
 -- Numbers with a limit
-
-pub limit_passed : (limit n : ℕ) (o : Option ℕ) → o ≡ at_most limit n → o ≡ None → limit < n
-limit_passed limit n o e none = by (nat_lt limit n) refl (sym none ∙ e)
-  where
-    by : (b : Bool) → nat_lt limit n ≡ b → None ≡ (if b then None else Some n) → limit < n
-    by true k h = ltb-true limit n k
-    by false k h = cc
 
 pub limit_kept : (limit n m : ℕ) (o : Option ℕ) → o ≡ at_most limit n → o ≡ Some m → n ≤ limit
 limit_kept limit n m o e some = by (cases_lt limit n)
@@ -66,15 +60,6 @@ pub not_lacking : (parts : SigParts) → ((sort : SortId) (t : Tree) → InU par
 not_lacking parts defined r h = none_lacks parts (pools_by parts) h.term (defined h.sort h.term h.bounded) r h.lacks
 
 -- The first refusal, where it is that of each question in turn
-
-pub refused_assignments : (parts : SigParts) (terms : ℕ) → 4096 < assignments parts → IsRefusal parts terms Assignments
-refused_assignments parts terms more = inl (refl, more)
-
-pub refused_terms : (parts : SigParts) (terms : ℕ) → assignments parts ≤ 4096 → terms < term_count parts → IsRefusal parts terms TooManyTerms
-refused_terms parts terms few more = inr (not_many_assignments parts few, inl (refl, more))
-
-pub refused_large : (parts : SigParts) (terms : ℕ) → assignments parts ≤ 4096 → term_count parts ≤ terms → (r : Refusal) → HasLargeValue parts r → IsRefusal parts terms r
-refused_large parts terms few short r h = inr (not_many_assignments parts few, inr (not_many_terms parts terms short, inl h))
 
 pub refused_background : (parts : SigParts) (terms : ℕ) → assignments parts ≤ 4096 → term_count parts ≤ terms → HasSmallValues parts
     → (r : Refusal) → HasBrokenBackground parts (pools_by parts) r → IsRefusal parts terms r
@@ -125,9 +110,6 @@ one_first Answers count one r q h k =
     let same = same_place h.at k.at (λ less. k.before h.at less r h.answer) (λ more. h.before k.at more q k.answer) in
     one k.at r q (subst (λ n. Answers n r) same h.answer) k.answer
 
-some_is : {A : Type 0} {x y : A} → Some x ≡ Some y → x ≡ y
-some_is e = cc
-
 one_break : (parts : SigParts) (pools : Pools) (number : ℕ) (e : Equation) (test : ℕ) → IsOne (Breaks parts pools number e test)
 one_break parts pools number e test r q (left_over n) (left_over m) = refl
 one_break parts pools number e test r q (left_over n) (right_over v is m) = cc
@@ -174,7 +156,7 @@ large_before sorts s u h k less =
 sort_id : ℕ → SortId
 sort_id n = record { 0 = n }
 
-same_sort : (s u : SortId) → s.0 ≡ u.0 → s ≡ u
+pub same_sort : (s u : SortId) → s.0 ≡ u.0 → s ≡ u
 unfolding sort_id
 same_sort s u e = ap sort_id e
 

@@ -13,13 +13,14 @@ use Rattle.law_sig.specs.declared.tree.Tree.{Tree}
 use Rattle.law_sig.specs.declared.tree.Tree.TheVariants.{Var, App}
 use Rattle.law_sig.specs.declared.parts.SigParts.{SigParts}
 use Rattle.law_laws.specs.Renaming.{has_vars}
-use Rattle.law_laws.proofs.Renaming.{vars-Var, vars-App}
+use Rattle.law_laws.proofs.Renaming.{vars-App}
 use Rattle.law_laws.proofs.Sorts.{HaveSorts, sorted_app}
 use Rattle.law_laws.proofs.TreeFacts.{val-Var, val-App}
 use Rattle.law_value.specs.declared.bank.ValueId.{ValueId}
 use Rattle.law_value.specs.Values.{IsOf, AreOf, tree_of, trees_of, Grows}
 use Rattle.law_pool.specs.Table.{PoolTable, pools_of, radices_by, tests_of, vars_of}
 use Rattle.law_value.proofs.BankFacts.{take_all}
+use Rattle.law_pool.proofs.GivenFacts.{have_count}
 use Rattle.law_pool.proofs.Reading.{list_keeps, sorts_keep, id_keeps, each_at, take_next}
 use Rattle.law_gen.specs.Draws.{pools_by}
 use Rattle.law_explore.specs.Values.{ArePools, IsTestable, IsValue, Both, tests_by, val_by, applied_value}
@@ -49,9 +50,6 @@ vars_are parts bank table sort p = ap (λ vs. slice_index_or vs sort.0 0) p.fits
 
 -- Variables
 
-pub variable_within : (parts : SigParts) (s : SortId) (i : ℕ) → IsTestable parts (Var s i) → i < vars_at parts s
-variable_within parts s i t = vars-Var parts s i t.variables
-
 pub variable_value : (parts : SigParts) (bank : List Tree) (table : PoolTable) (test : ℕ) (s : SortId) (i : ℕ) (v : ValueId) → ArePools parts bank table
     → value_at parts (pools_of bank table.ids) test s i ≡ Some (tree_of bank v) → IsOf bank v → IsValue parts bank test (Var s i) v
 variable_value parts bank table test s i v p e held = record {
@@ -60,12 +58,6 @@ variable_value parts bank table test s i v p e held = record {
 }
 
 -- Applications
-
-have_count : (parts : SigParts) (ts : List Tree) (ws : List SortId) → HaveSorts parts ts ws → length ts ≡ length ws
-have_count parts [] [] h = refl
-have_count parts [] (w ∷ ws) h = absurd h
-have_count parts (t ∷ ts) [] h = absurd h
-have_count parts (t ∷ ts) (w ∷ ws) h = ap suc (have_count parts ts ws h.1)
 
 pub few_args : (parts : SigParts) → IsWellFormed parts → (f : SymId) (args : List Tree) → IsTestable parts (App f args) → length args ≤ 8
 few_args parts well f args t =

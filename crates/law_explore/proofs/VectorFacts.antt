@@ -21,6 +21,7 @@ use Rattle.law_explore.specs.Values.{IsTestable, IsValue, AreIds, IsVector, Both
 use Rattle.law_explore.proofs.BothFacts.{both_map, both_long}
 use Rattle.law_explore.proofs.Testing.{value_stays, values_held, application_value, few_args}
 use Rattle.law_explore.proofs.Breaking.{told_on}
+use Rattle.law_explore.proofs.LawFacts.{some_is}
 
 -- One id more
 
@@ -32,15 +33,6 @@ place_before (y ∷ xs) x (suc k) less = place_before xs x k (omega arith)
 place_last : (xs : List ℕ) (x : ℕ) → slice_index_or (xs ++ x ∷ []) (length xs) 0 ≡ x
 place_last [] x = refl
 place_last (y ∷ xs) x = place_last xs x
-
-pub ids_none : (parts : SigParts) (bank : List Tree) (t : Tree) (ids : List ℕ) → ids ≡ [] → AreIds parts bank t 0 ids
-ids_none parts bank t ids e = record { one_each = ap length e; values = λ k less. absurd (omega arith) }
-
-pub ids_stay : (parts : SigParts) (old new : List Tree) (t : Tree) (tests : ℕ) (ids : List ℕ) → Grows old new → AreIds parts old t tests ids → AreIds parts new t tests ids
-ids_stay parts old new t tests ids grows are = record {
-  one_each = are.one_each;
-  values = λ k less. value_stays parts old new k t (id_in ids k) grows (are.values k less);
-}
 
 pub ids_next : (parts : SigParts) (old new : List Tree) (t : Tree) (test : ℕ) (ids more : List ℕ) (v : ValueId) → AreIds parts old t test ids → Grows old new
     → IsValue parts new test t v → more ≡ ids ++ v.0 ∷ [] → AreIds parts new t (test + 1) more
@@ -135,9 +127,6 @@ lacking_application parts bank vectors test tests term f places ids values none 
 pub known_found : (parts : SigParts) (bank : List Tree) (found : Finds) (vectors : List (Vec ℕ Global)) (args : List Tree) → Each (IsKnown parts bank found vectors) args → Each (IsFound found) args
 known_found parts bank found vectors [] known = tt
 known_found parts bank found vectors (t ∷ args) known = (λ v e. let k = known.0 v e in (k.0, k.1), known_found parts bank found vectors args known.1)
-
-some_is : {A : Type 0} {x y : A} → Some x ≡ Some y → x ≡ y
-some_is e = cc
 
 pub known_vectors : (parts : SigParts) (bank : List Tree) (found : Finds) (vectors : List (Vec ℕ Global)) (args : List Tree) (places : List ℕ)
     → Each (IsKnown parts bank found vectors) args → Both (IsPlaced found) args places → HaveVectors parts bank vectors args places

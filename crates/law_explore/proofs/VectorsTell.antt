@@ -18,9 +18,8 @@ use Rattle.law_gen.specs.Draws.{pools_by}
 use Rattle.law_explore.specs.Universe.{IsUniverse}
 use Rattle.law_explore.specs.Tells.{Tells}
 use Rattle.law_explore.specs.Values.{IsVector, AreVectors, Both, items_of, id_in, tests_by}
-
-some_is : {A : Type 0} {x y : A} → Some x ≡ Some y → x ≡ y
-some_is e = cc
+use Rattle.law_explore.proofs.LawFacts.{some_is}
+use Rattle.law_explore.proofs.RefusalFacts.{same_sort}
 
 -- The vector that stands where a term does
 
@@ -78,13 +77,6 @@ same_lists (x ∷ xs) (y ∷ ys) long same =
     let k : length xs ≡ length ys = cc in
     ap₂ ◌∷◌ (same 0 (omega arith)) (same_lists xs ys k (λ n less. same (suc n) (omega arith)))
 
-sort_id : ℕ → SortId
-sort_id n = record { 0 = n }
-
-same_sorts : (s u : SortId) → s.0 ≡ u.0 → s ≡ u
-unfolding sort_id
-same_sorts s u e = ap sort_id e
-
 module _ (parts : SigParts) (bank : List Tree) (shared : IsShared bank) (terms : List Tree) (vectors : List (Vec ℕ Global)) (have : AreVectors parts bank terms vectors) where
   abbrev pub own_vector : Tree → List ℕ
   own_vector t = vector_in terms (items_of vectors) t
@@ -102,7 +94,7 @@ module _ (parts : SigParts) (bank : List Tree) (shared : IsShared bank) (terms :
       let v = own_is s s_in in
       let w = own_is t t_in in (
         λ e. (
-          v.sorted ∙ ap Some (same_sorts v.sort w.sort (sym v.last ∙ ap (λ l. slice_index_or l (tests_by parts) 0) e ∙ w.last)) ∙ sym w.sorted,
+          v.sorted ∙ ap Some (same_sort v.sort w.sort (sym v.last ∙ ap (λ l. slice_index_or l (tests_by parts) 0) e ∙ w.last)) ∙ sym w.sorted,
           λ test within. (v.values test within).is ∙ ap (λ l. Some (tree_of bank (id_in l test))) e ∙ sym (w.values test within).is,
         ),
         λ h. same_lists (own_vector s) (own_vector t) (v.long ∙ sym w.long) (λ k less. elim (cases_lt k (tests_by parts)) [

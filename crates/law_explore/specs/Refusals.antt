@@ -38,9 +38,11 @@ pub record IsFirstAnswer {A : Type 0} (Answers : ℕ → A → Type 0) (count : 
 
 -- The five questions
 
+-- more than 4,096 ways to give the variables places
 abbrev pub HasManyAssignments : SigParts → Refusal → Type 0
 HasManyAssignments parts r = (r ≡ Assignments) × (4096 < assignments parts)
 
+-- more terms in the universe than are allowed
 abbrev pub HasManyTerms : SigParts → ℕ → Refusal → Type 0
 HasManyTerms parts terms r = (r ≡ TooManyTerms) × (terms < term_count parts)
 
@@ -48,6 +50,7 @@ HasManyTerms parts terms r = (r ≡ TooManyTerms) × (terms < term_count parts)
 abbrev pub HasLargeValue : SigParts → Refusal → Type 0
 HasLargeValue parts r = (pool : ℕ) × (sort : SortId) × (r ≡ ValueTooLarge pool sort) × IsFirst (pools_by parts) pool sort
 
+-- there is none
 abbrev pub HasSmallValues : SigParts → Type 0
 HasSmallValues parts = Each (Each AreSmall) (pools_by parts)
 

@@ -8,33 +8,30 @@ use std::alloc::Global;
 
 /// The first place of a vector: the one that is noted, or else this one, which is noted from then on.
 pub fn note(
-    alloc: Global,
     places: &mut IndexMap<Vec<u64>, usize>,
-    vector: &Vec<u64>,
+    vector: Vec<u64>,
     at: usize,
 ) -> Result<usize, NoMemory>
-    ensures { IfOk result (λ first. IsNoted (get same_items places.old) (get same_items places.new) vector.now at first) }
+    ensures { IfOk result (λ first. IsNoted (get same_items places.old) (get same_items places.new) vector at first) }
 {
-    if let Some(first) = places.get(vector) {
+    if let Some(first) = places.get(&vector) {
         return Ok(*first);
     }
-    let Ok(own) = Vec::from_slice(alloc, vector.as_slice()) else {
-        return Err(NoMemory);
-    };
-    match places.insert(own, at) {
+    match places.insert(vector, at) {
         Ok(_) => Ok(at),
         Err(_) => Err(NoMemory),
     }
 }
 
 /// For each place the first place that has an equal vector.
-pub fn first_same(alloc: Global, vectors: &[Vec<u64>]) -> Result<Vec<usize>, NoMemory>
-    ensures { IfOk result (λ firsts. AreFirsts (map (λ v. v.items) vectors.now) firsts.items) }
+pub fn first_same(alloc: Global, vectors: Vec<Vec<u64>>) -> Result<Vec<usize>, NoMemory>
+    ensures { IfOk result (λ firsts. AreFirsts (map (λ v. v.items) vectors.items) firsts.items) }
 {
     let mut places = IndexMap::new(alloc);
     let mut firsts = Vec::new(alloc);
-    for (at, vector) in vectors.iter().enumerate() {
-        let first = note(alloc, &mut places, vector, at)?;
+    for vector in vectors {
+        let at = firsts.len();
+        let first = note(&mut places, vector, at)?;
         let Ok(()) = firsts.push(first) else {
             return Err(NoMemory);
         };

@@ -57,7 +57,7 @@ impl<'s> Tester<'s> {
         let terms = universe(self.alloc, self.sig)?;
         let vectors = self.vectors(bank, terms.as_slice())?;
         bank.shared();
-        let firsts = first_same(self.alloc, vectors.as_slice())?;
+        let firsts = first_same(self.alloc, vectors)?;
         Ok(equations(self.alloc, terms.as_slice(), firsts.as_slice())?)
     }
 }

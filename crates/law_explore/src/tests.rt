@@ -71,7 +71,7 @@ fn equal_vectors_have_one_first_place(rt: HostRuntime) -> Result<(), Fail> {
         vectors.push(vector.to_vec(alloc)?)?;
     }
     assert_eq!(rt;
-        first_same(alloc, vectors.as_slice())?.as_slice(),
+        first_same(alloc, vectors)?.as_slice(),
         [0usize, 1, 0, 3, 1, 0].as_slice()
     );
     Ok(())

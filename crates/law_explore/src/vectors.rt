@@ -158,7 +158,7 @@ impl<'s> Tester<'s> {
             let Ok(()) = vectors.push(found) else {
                 return Err(ExploreErr::NoMemory);
             };
-            note(self.alloc, &mut known, &word_of(self.alloc, term)?, at)?;
+            note(&mut known, word_of(self.alloc, term)?, at)?;
         }
         Ok(vectors)
     }

@@ -1,6 +1,5 @@
 use Rattle.std.proofs.Common.{subst}
-use Rattle.law_explore.specs.Firsts.{AreFirsts}
-use Rattle.law_explore.specs.Values.{AreVectors, items_of}
+use Rattle.law_explore.specs.Values.{AreVectors}
 use Rattle.law_explore.proofs.ListedFacts.{AreListed, slice_long, slice_within, slice_laws}
 use Rattle.law_explore.proofs.values.Tester.laws.Goals as goal
 
@@ -10,9 +9,9 @@ equations-requires-clause-long c =
       universe = c.in_ok-terms.ensures;
       shared = c.shared.ensures;
       have = subst (λ l. AreVectors c.args.self.now.sig.now c.vectors.new.bank l c.in_ok-vectors.vectors.items) c.as_slice.ensures c.in_ok-vectors.ensures.vectors;
-      are_firsts = subst (λ l. AreFirsts (items_of l) c.in_ok-firsts.firsts.items) c.as_slice-2.ensures.value c.in_ok-firsts.ensures;
+      are_firsts = c.in_ok-firsts.ensures;
     } in
-    slice_long c.args.self.now.sig.now c.vectors.new.bank c.in_ok-terms.terms c.in_ok-vectors.vectors.items c.in_ok-firsts.firsts.items made c.as_slice-3.result.now c.as_slice-4.result.now c.as_slice-3.ensures c.as_slice-4.ensures.value
+    slice_long c.args.self.now.sig.now c.vectors.new.bank c.in_ok-terms.terms c.in_ok-vectors.vectors.items c.in_ok-firsts.firsts.items made c.as_slice-2.result.now c.as_slice-3.result.now c.as_slice-2.ensures c.as_slice-3.ensures.value
 
 pub equations-requires-clause-within : goal.equations-requires-clause-within
 equations-requires-clause-within c =
@@ -20,9 +19,9 @@ equations-requires-clause-within c =
       universe = c.in_ok-terms.ensures;
       shared = c.shared.ensures;
       have = subst (λ l. AreVectors c.args.self.now.sig.now c.vectors.new.bank l c.in_ok-vectors.vectors.items) c.as_slice.ensures c.in_ok-vectors.ensures.vectors;
-      are_firsts = subst (λ l. AreFirsts (items_of l) c.in_ok-firsts.firsts.items) c.as_slice-2.ensures.value c.in_ok-firsts.ensures;
+      are_firsts = c.in_ok-firsts.ensures;
     } in
-    slice_within c.args.self.now.sig.now c.vectors.new.bank c.in_ok-terms.terms c.in_ok-vectors.vectors.items c.in_ok-firsts.firsts.items made c.as_slice-3.result.now c.as_slice-4.result.now c.as_slice-3.ensures c.as_slice-4.ensures.value
+    slice_within c.args.self.now.sig.now c.vectors.new.bank c.in_ok-terms.terms c.in_ok-vectors.vectors.items c.in_ok-firsts.firsts.items made c.as_slice-2.result.now c.as_slice-3.result.now c.as_slice-2.ensures c.as_slice-3.ensures.value
 
 pub returns-clause-laws : goal.returns-clause-laws
 returns-clause-laws c =
@@ -30,7 +29,7 @@ returns-clause-laws c =
       universe = c.in_ok-terms.ensures;
       shared = c.shared.ensures;
       have = subst (λ l. AreVectors c.args.self.now.sig.now c.vectors.new.bank l c.in_ok-vectors.vectors.items) c.as_slice.ensures c.in_ok-vectors.ensures.vectors;
-      are_firsts = subst (λ l. AreFirsts (items_of l) c.in_ok-firsts.firsts.items) c.as_slice-2.ensures.value c.in_ok-firsts.ensures;
+      are_firsts = c.in_ok-firsts.ensures;
     } in
-    slice_laws c.args.self.now.sig.now c.vectors.new.bank c.in_ok-terms.terms c.in_ok-vectors.vectors.items c.in_ok-firsts.firsts.items made c.as_slice-3.result.now c.as_slice-4.result.now
-    c.in_ok-equations.field-0 c.as_slice-3.ensures c.as_slice-4.ensures.value c.in_ok-equations.ensures
+    slice_laws c.args.self.now.sig.now c.vectors.new.bank c.in_ok-terms.terms c.in_ok-vectors.vectors.items c.in_ok-firsts.firsts.items made c.as_slice-2.result.now c.as_slice-3.result.now
+    c.in_ok-equations.field-0 c.as_slice-2.ensures c.as_slice-3.ensures.value c.in_ok-equations.ensures
