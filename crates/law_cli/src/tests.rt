@@ -189,6 +189,26 @@ fn lines_that_state_no_signature(rt: HostRuntime) -> Result<(), Fail> {
     ] {
         assert!(rt; refuses_changed(alloc, PLUS, from, to, 3, line)?);
     }
+    assert!(rt;
+        refuses_changed(
+            alloc,
+            LISTS,
+            "(append @1 #1)",
+            "(append @0 #1)",
+            3,
+            "line 21: SortMismatch\n"
+        )?
+    );
+    assert!(rt;
+        refuses_changed(
+            alloc,
+            LISTS,
+            "S (plus @0 #1)",
+            "S (same Nil)",
+            3,
+            "line 17: LaterCall\n"
+        )?
+    );
     Ok(())
 }
 

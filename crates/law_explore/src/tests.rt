@@ -2,9 +2,9 @@
 use super::listed::pools_of;
 use crate::first_same;
 use law_pool::Pools;
-use law_read::read_sig;
-use law_sig::Sig;
-use law_types::check_sig;
+use law_read::{RawTerm, read_sig, read_term, write_term};
+use law_sig::{Sig, SortId};
+use law_types::{TypeErr, TypeKind, check_sig, raw_term, typed};
 use law_value::ValueBank;
 use std::alloc::Global;
 use std::test::Fail;
@@ -75,4 +75,65 @@ fn equal_vectors_have_one_first_place(rt: HostRuntime) -> Result<(), Fail> {
         [0usize, 1, 0, 3, 1, 0].as_slice()
     );
     Ok(())
+}
+
+const LISTS: &str =
+    "signature 1\nvars 1\nsize 3\nwidth 1\nbudget 9\npairs 20\npools given\nsort Nat\ncon Z\ncon S Nat\nsort List\ncon Nil\ncon Cons Nat List\nfun len List -> Nat\nmatch 0\ncase Nil = Z\ncase Cons = S (len @0)\nexplore len\npool\nvalues Nat Z\nvalues List Nil\nend\n";
+
+fn fault_of(alloc: Global, text: &str) -> Option<TypeErr> {
+    let Ok(raw) = read_sig(alloc, text.as_bytes()) else {
+        return None;
+    };
+    check_sig(alloc, &raw).err()
+}
+
+// A field of the wrong sort is told with the sort that is wanted and the one that is found.
+#[test]
+fn sorts_of_a_mismatch(rt: HostRuntime) {
+    let alloc = rt.alloc();
+    let kind = TypeKind::SortMismatch {
+        wanted: SortId(1),
+        found: SortId(0),
+    };
+    assert_eq!(rt;
+        fault_of(alloc, LISTS),
+        Some(TypeErr::At { line: 17, kind })
+    );
+    assert_eq!(rt; fault_of(alloc, PLUS), None);
+}
+
+/// What is written of a term once it was typed and copied.
+fn written_again(alloc: Global, sig: &Sig, raw: &RawTerm) -> Option<bool> {
+    let Ok(Some(tree)) = typed(alloc, sig, raw) else {
+        return None;
+    };
+    let Ok(copy) = tree.copy(alloc) else {
+        return None;
+    };
+    let Ok(again) = raw_term(alloc, sig, &copy) else {
+        return None;
+    };
+    let (Ok(first), Ok(second)) = (write_term(alloc, raw), write_term(alloc, &again)) else {
+        return None;
+    };
+    Some(first.as_slice() == second.as_slice())
+}
+
+// A variable may have any index outside of the explored terms, and a missing argument is no term.
+#[test]
+fn terms_by_their_names(rt: HostRuntime) {
+    let alloc = rt.alloc();
+    let Some(sig) = signature(alloc, PLUS) else {
+        assert!(rt; false);
+        return;
+    };
+    let (Ok(whole), Ok(short)) = (
+        read_term(alloc, b"plus Nat.0 Nat.7"),
+        read_term(alloc, b"plus Nat.0"),
+    ) else {
+        assert!(rt; false);
+        return;
+    };
+    assert_eq!(rt; written_again(alloc, &sig, &whole), Some(true));
+    assert_eq!(rt; written_again(alloc, &sig, &short), None);
 }
