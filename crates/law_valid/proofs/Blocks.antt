@@ -55,7 +55,7 @@ term_at (e.Live t) = t ∷ []
 term_at (e.Moved q steps) = q.left ∷ []
 
 -- the entries from the next schema on
-from_schema : List Entry → List Entry
+abbrev pub from_schema : List Entry → List Entry
 from_schema [] = []
 from_schema (e.Law n q ∷ xs) = from_schema xs
 from_schema (e.Lemma n q steps ∷ xs) = from_schema xs
@@ -64,8 +64,7 @@ from_schema (e.Killed q steps ∷ xs) = e.Killed q steps ∷ xs
 from_schema (e.Live t ∷ xs) = from_schema xs
 from_schema (e.Moved q steps ∷ xs) = from_schema xs
 
-terms_parts : (xs : List Entry) → stated term_at xs ≡ terms_after xs ++ stated term_at (from_schema xs)
-unfolding from_schema
+pub terms_parts : (xs : List Entry) → stated term_at xs ≡ terms_after xs ++ stated term_at (from_schema xs)
 terms_parts [] = refl
 terms_parts (e.Law n q ∷ xs) = terms_parts xs
 terms_parts (e.Lemma n q steps ∷ xs) = terms_parts xs
@@ -127,7 +126,7 @@ blocks_of parts pools all each before (e.Spread c ∷ xs) split = (
   blocks_of parts pools all each (before ++ e.Spread c ∷ []) xs (split ∙ sym (append_assoc before (e.Spread c ∷ []) xs)),
 )
 blocks_of parts pools all each before (e.Killed q steps ∷ xs) split = (
-  (each before (e.Killed q steps) xs split).1,
+  (each before (e.Killed q steps) xs split).2,
   blocks_of parts pools all each (before ++ e.Killed q steps ∷ []) xs (split ∙ sym (append_assoc before (e.Killed q steps ∷ []) xs)),
 )
 blocks_of parts pools all each before (e.Live t ∷ xs) split = blocks_of parts pools all each (before ++ e.Live t ∷ []) xs (split ∙ sym (append_assoc before (e.Live t ∷ []) xs))
@@ -160,7 +159,6 @@ module _ (parts : SigParts) (lives : List Tree) where
 
   ordered : (xs : List Entry) → Blocks parts lives xs → Rising (IsBefore parts) (stated schema_at xs)
       → AreOrdered parts lives (stated spread_at xs) (stated term_at (from_schema xs))
-  unfolding from_schema
   ordered [] h r = record { rising = tt; instances = tt }
   ordered (e.Law n q ∷ xs) h r = ordered xs h r
   ordered (e.Lemma n q steps ∷ xs) h r = ordered xs h r

@@ -1,6 +1,6 @@
 -- A valid certificate covers.
-use Rattle.std.proofs.Common.{◌≡◌, ◌≢◌, ℕ, ◌<◌, ◌⊎◌, inl, inr, true≢false, Option, Some, None, IsSome, List, [], option_and_then, sym, refl, ap, ◌∙◌, subst}
-use Rattle.law_sig.specs.Lists.{In}
+use Rattle.std.proofs.Common.{◌≡◌, ◌≢◌, ℕ, ◌<◌, ◌⊎◌, inl, inr, true≢false, Option, Some, None, IsSome, List, [], ◌∷◌, option_and_then, sym, refl, ap, ◌∙◌, subst}
+use Rattle.law_sig.specs.Lists.{In, Each}
 use Rattle.law_sig.specs.Trees.{schema_of}
 use Rattle.law_sig.specs.Signature.{sort_of}
 use Rattle.law_sig.specs.Derive.{Derivable}
@@ -11,7 +11,7 @@ use Rattle.law_sig.specs.declared.tree.SortId.{SortId}
 use Rattle.law_sig.specs.declared.tree.Tree.{Tree}
 use Rattle.law_sig.specs.declared.parts.Equation.{Equation}
 use Rattle.law_sig.specs.declared.parts.SigParts.{SigParts}
-use Rattle.law_laws.proofs.ListFacts.{in_none, of_each, each_of, in_rest}
+use Rattle.law_laws.proofs.ListFacts.{in_none, in_map, of_each, each_of, each_map, in_rest}
 use Rattle.law_laws.proofs.BodyFacts.{some_is}
 use Rattle.law_laws.proofs.Sorts.{schema_sort}
 use Rattle.law_laws.proofs.Renaming.{bounded_vars, flat_value}
@@ -20,12 +20,13 @@ use Rattle.law_valid.specs.declared.certificate.Entry.{Entry}
 use Rattle.law_valid.specs.declared.certificate.Entry.TheVariants as e
 use Rattle.law_valid.specs.declared.certificate.SortTree.{SortTree}
 use Rattle.law_valid.specs.Stated.{stated, spread_at, live_at, law_at, numbered}
-use Rattle.law_valid.specs.Trees.{value_of, IsTest, IsFlatTest, alone, schemas_of, IsRising, IsTermTree, IsSchemaTree}
+use Rattle.law_valid.specs.Splits.{Cut, leaves_of, cuts_of, Tells}
+use Rattle.law_valid.specs.Trees.{value_of, IsTest, IsFlatTest, schemas_of, HasTerms, IsTree, sorts_in}
 use Rattle.law_valid.specs.Valid.{IsEntry, IsValid}
 use Rattle.law_valid.proofs.StatedFacts.{in_numbered, stated_by}
 use Rattle.law_valid.proofs.Derive.{base_of}
 use Rattle.law_valid.proofs.Reach.{live_instance, Reached, reached}
-use Rattle.law_valid.proofs.Apart.{AreAtOneLeaf, AreTold, decided}
+use Rattle.law_valid.proofs.Apart.{AreAtOneLeaf, AreTold, decided, numbers_of, as_numbers, alone, numbers_alone, cut_alone}
 
 -- two values that differ tell terms apart
 told_apart : (parts : SigParts) (pools : Pools) (s t : Tree) (test : ℕ) → test < test_count parts pools
@@ -64,34 +65,43 @@ module _ (parts : SigParts) (pools : Pools) (all : List Entry) (trees : List Sor
       let (n, n_is) = in_numbered at in
       record { number = n; is = n_is; at = at; sorted = schema_sort parts u ∙ bounded.sorted }
 
+  abbrev live_value : ℕ → ℕ → Option Tree
+  live_value = value_of parts pools (stated live_at all)
+
   -- two live terms of one class are the same, or told apart
-  in_class : (u w : Tree) → In u (stated live_at all) → In w (stated live_at all) → (class : Class) (k m : ℕ) → IsTermTree parts pools all class
+  in_class : (u w : Tree) → In u (stated live_at all) → In w (stated live_at all) → (class : Class) (k m : ℕ) → HasTerms parts pools all class
+      → Each (Tells (value_of parts pools (stated live_at all))) (cuts_of class.terms)
       → In k class.schemas → In m class.schemas → numbered (stated spread_at all) k ≡ Some (schema_of u) → numbered (stated spread_at all) m ≡ Some (schema_of w)
       → (u ≡ w) ⊎ IsToldApart parts pools u w
-  in_class u w u_live w_live class k m is k_in m_in k_is m_is =
+  in_class u w u_live w_live class k m is tell k_in m_in k_is m_is =
       let (i, i_is) = in_numbered u_live in
       let (j, j_is) = in_numbered w_live in
-      by i j i_is j_is (decided ℕ alone (IsTest parts pools) (value_of parts pools (stated live_at all)) (λ n. Unit {0}) class.terms i j is.splits
-      ((is.exact i).1 (u, i_is, (k, k_in, k_is))) ((is.exact j).1 (w, j_is, (m, m_in, m_is))))
+      by i j i_is j_is (decided ℕ alone live_value class.terms i j tell_alone
+      (at_leaves i ((is.terms.exact i).1 (u, i_is, (k, k_in, k_is)))) (at_leaves j ((is.terms.exact j).1 (w, j_is, (m, m_in, m_is)))))
     where
+      at_leaves : (i : ℕ) → In i (leaves_of class.terms) → In i (numbers_of ℕ alone live_value class.terms)
+      at_leaves i at = subst (In i) (sym (numbers_alone (leaves_of class.terms))) at
+
+      tell_alone : Each (λ cut. Tells live_value (as_numbers ℕ alone live_value cut)) (cuts_of class.terms)
+      tell_alone = each_map _ _ (λ cut h. subst (Tells (value_of parts pools (stated live_at all))) (sym (cut_alone (value_of parts pools (stated live_at all)) cut)) h) (cuts_of class.terms) tell
+
       by : (i j : ℕ) → numbered (stated live_at all) i ≡ Some u → numbered (stated live_at all) j ≡ Some w
-          → AreAtOneLeaf ℕ alone (IsTest parts pools) (value_of parts pools (stated live_at all)) (λ n. Unit {0}) i j
-          ⊎ AreTold ℕ alone (IsTest parts pools) (value_of parts pools (stated live_at all)) (λ n. Unit {0}) i j
-          → (u ≡ w) ⊎ IsToldApart parts pools u w
+          → AreAtOneLeaf ℕ alone live_value class.terms i j ⊎ AreTold ℕ alone live_value class.terms i j → (u ≡ w) ⊎ IsToldApart parts pools u w
       by i j i_is j_is (inl leaf) = inl (one (in_rest leaf.first) (in_rest leaf.second))
         where
-          one : (i ≡ leaf.at) ⊎ In i [] → (j ≡ leaf.at) ⊎ In j [] → u ≡ w
+          one : (i ≡ leaf.leaf) ⊎ In i [] → (j ≡ leaf.leaf) ⊎ In j [] → u ≡ w
           one (inl p) (inl q) = some_is u w (sym i_is ∙ ap (numbered (stated live_at all)) (p ∙ sym q) ∙ j_is)
           one (inl p) (inr no_more) = in_none no_more
           one (inr no_more) q = in_none no_more
-      by i j i_is j_is (inr told) = inr (by_numbers parts pools (stated live_at all) u w told.test i j told.named
-          (value_is parts pools (stated live_at all) told.test i u i_is) (value_is parts pools (stated live_at all) told.test j w j_is) told.first told.second told.differ)
+      by i j i_is j_is (inr told) = inr (by_numbers parts pools (stated live_at all) u w told.cut.test i j
+          (of_each (IsTest parts pools) (in_map (λ (cut : Cut ℕ). cut.test) told.at) is.tests)
+          (value_is parts pools (stated live_at all) told.cut.test i u i_is) (value_is parts pools (stated live_at all) told.cut.test j w j_is) told.first told.second told.differ)
 
   -- two live terms of one sort are the same, or told apart
   live_apart : (sort : SortId) (u w : Tree) → InU parts sort u → InU parts sort w → In u (stated live_at all) → In w (stated live_at all) → (u ≡ w) ⊎ IsToldApart parts pools u w
   live_apart sort u w u_in w_in u_live w_live =
-      let (tree, at, same) = (valid.trees_are.sorts sort).1 (schema_of u, u_schema.at, u_schema.sorted) in
-      in_tree tree (of_each (IsSchemaTree parts pools all) at valid.trees_are.each) same
+      let (tree, same, is) = tree_of trees ((valid.trees_are.sorts sort).1 (schema_of u, u_schema.at, u_schema.sorted)) valid.trees_are.each in
+      in_tree tree is same
     where
       u_schema : HasSchema sort u
       u_schema = has_schema sort u u_in u_live
@@ -99,23 +109,37 @@ module _ (parts : SigParts) (pools : Pools) (all : List Entry) (trees : List Sor
       w_schema : HasSchema sort w
       w_schema = has_schema sort w w_in w_live
 
-      in_tree : (tree : SortTree) → IsSchemaTree parts pools all tree → tree.sort ≡ sort → (u ≡ w) ⊎ IsToldApart parts pools u w
-      in_tree tree is same = by (decided Class schemas_of (IsFlatTest parts pools) (value_of parts pools (stated spread_at all))
-          (λ (class : Class). IsRising class.schemas × IsTermTree parts pools all class) tree.tree u_schema.number w_schema.number is.splits
-          ((is.exact u_schema.number).1 (schema_of u, u_schema.is, u_schema.sorted ∙ ap Some (sym same)))
-          ((is.exact w_schema.number).1 (schema_of w, w_schema.is, w_schema.sorted ∙ ap Some (sym same))))
+      -- the tree of the sort
+      tree_of : (trees : List SortTree) → In sort (sorts_in trees) → Each (IsTree parts pools all) trees → (tree : SortTree) × (tree.sort ≡ sort) × IsTree parts pools all tree
+      tree_of [] at is = in_none at
+      tree_of (tree ∷ trees) at is = by (tree_of trees) (in_rest at)
+        where
+          by : (In sort (sorts_in trees) → Each (IsTree parts pools all) trees → (tree : SortTree) × (tree.sort ≡ sort) × IsTree parts pools all tree)
+              → (sort ≡ tree.sort) ⊎ In sort (sorts_in trees) → (tree : SortTree) × (tree.sort ≡ sort) × IsTree parts pools all tree
+          by later (inl same) = (tree, sym same, is.0)
+          by later (inr h) = later h is.1
+
+      in_tree : (tree : SortTree) → IsTree parts pools all tree → tree.sort ≡ sort → (u ≡ w) ⊎ IsToldApart parts pools u w
+      in_tree tree is same = by (decided Class schemas_of (value_of parts pools (stated spread_at all)) tree.tree u_schema.number w_schema.number is.schemas_told
+          ((is.schemas.schemas.exact u_schema.number).1 (schema_of u, u_schema.is, u_schema.sorted ∙ ap Some (sym same)))
+          ((is.schemas.schemas.exact w_schema.number).1 (schema_of w, w_schema.is, w_schema.sorted ∙ ap Some (sym same))))
         where
           flat_is : (t : Tree) → InU parts sort t → (test n : ℕ) → IsFlatTest parts pools test → numbered (stated spread_at all) n ≡ Some (schema_of t)
               → value_of parts pools (stated spread_at all) test n ≡ val parts pools test t
           flat_is t bounded test n flat is = value_is parts pools (stated spread_at all) test n (schema_of t) is
               ∙ flat_value parts pools test flat.1 t (bounded_vars parts t bounded.bounded)
 
-          by : AreAtOneLeaf Class schemas_of (IsFlatTest parts pools) (value_of parts pools (stated spread_at all)) (λ (class : Class). IsRising class.schemas × IsTermTree parts pools all class) u_schema.number w_schema.number
-              ⊎ AreTold Class schemas_of (IsFlatTest parts pools) (value_of parts pools (stated spread_at all)) (λ (class : Class). IsRising class.schemas × IsTermTree parts pools all class) u_schema.number w_schema.number
+          by : AreAtOneLeaf Class schemas_of (value_of parts pools (stated spread_at all)) tree.tree u_schema.number w_schema.number
+              ⊎ AreTold Class schemas_of (value_of parts pools (stated spread_at all)) tree.tree u_schema.number w_schema.number
               → (u ≡ w) ⊎ IsToldApart parts pools u w
-          by (inl leaf) = in_class u w u_live w_live leaf.at u_schema.number w_schema.number leaf.is.1 leaf.first leaf.second u_schema.is w_schema.is
-          by (inr told) = inr (by_numbers parts pools (stated spread_at all) u w told.test u_schema.number w_schema.number told.named.0
-              (flat_is u u_in told.test u_schema.number told.named u_schema.is) (flat_is w w_in told.test w_schema.number told.named w_schema.is) told.first told.second told.differ)
+          by (inl leaf) = in_class u w u_live w_live leaf.leaf u_schema.number w_schema.number
+              (of_each (HasTerms parts pools all) leaf.at is.terms)
+              (of_each (λ (class : Class). Each (Tells (value_of parts pools (stated live_at all))) (cuts_of class.terms)) leaf.at is.terms_told)
+              leaf.first leaf.second u_schema.is w_schema.is
+          by (inr told) =
+              let flat = of_each (IsFlatTest parts pools) (in_map (λ (cut : Cut Class). cut.test) told.at) is.schemas.flat in
+              inr (by_numbers parts pools (stated spread_at all) u w told.cut.test u_schema.number w_schema.number flat.0
+              (flat_is u u_in told.cut.test u_schema.number flat u_schema.is) (flat_is w w_in told.cut.test w_schema.number flat w_schema.is) told.first told.second told.differ)
 
   law_holds : (q : Equation) → In q (stated law_at all) → IsLaw parts pools q
   law_holds q at = let p = stated_by law_at q all at in by p.before p.entry p.after (valid.each p.before p.entry p.after p.split) p.at

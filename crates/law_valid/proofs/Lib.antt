@@ -4,3 +4,10 @@ pub mod Blocks
 pub mod Reach
 pub mod Apart
 pub mod Covered
+pub mod Verdicts
+pub mod Walks
+pub mod Considering
+pub mod Passing
+pub mod Walked
+pub mod Passed
+pub mod Checked

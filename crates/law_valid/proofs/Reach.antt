@@ -7,7 +7,7 @@ use Rattle.law_sig.specs.Trees.{schema_of, substituted}
 use Rattle.law_sig.specs.Signature.{args_of, sort_of}
 use Rattle.law_sig.specs.Derive.{Derivable}
 use Rattle.law_sig.specs.Derive.Derivable.{reflexive, transitive}
-use Rattle.law_sig.specs.Tests.{weight, InU, Pools, Same}
+use Rattle.law_sig.specs.Tests.{weight, InU, Pools, Same, Agrees}
 use Rattle.law_sig.specs.Order.{IsBefore}
 use Rattle.law_sig.specs.declared.tree.SortId.{SortId}
 use Rattle.law_sig.specs.declared.tree.SymId.{SymId}
@@ -132,16 +132,16 @@ module _ (parts : SigParts) (pools : Pools) (all : List Entry) (trees : List Sor
   by_term sort t bounded front (e.Moved q steps) back split is at = by (in_rest at)
     where
       there_is : In q.right (stated live_at all)
-      there_is = subst (In q.right) (sym (ap (stated live_at) split ∙ stated_parts live_at front (e.Moved q steps ∷ back))) (in_left (stated live_at (e.Moved q steps ∷ back)) is.earlier)
+      there_is = subst (In q.right) (sym (ap (stated live_at) split ∙ stated_parts live_at front (e.Moved q steps ∷ back))) (in_left (stated live_at (e.Moved q steps ∷ back)) is.0.earlier)
 
       moved : InU parts sort q.left → Reached sort q.left
       moved left = record {
         to = q.right;
         is_live = there_is;
-        upto = inr (earlier_before parts all front q steps back split in_order.rising q.right is.earlier);
-        bounded = live_bounded sort q.right there_is (sym is.sorts ∙ left.sorted);
-        same = is.agree.same;
-        derivable = derivable_before parts pools all valid.each front (e.Moved q steps ∷ back) split steps q.left q.right is.chain;
+        upto = inr (earlier_before parts all front q steps back split in_order.rising q.right is.0.earlier);
+        bounded = live_bounded sort q.right there_is (sym is.0.sorts ∙ left.sorted);
+        same = is.1.same;
+        derivable = derivable_before parts pools all valid.each front (e.Moved q steps ∷ back) split steps q.left q.right is.0.chain;
       }
 
       by : (t ≡ q.left) ⊎ In t [] → Reached sort t
@@ -151,8 +151,8 @@ module _ (parts : SigParts) (pools : Pools) (all : List Entry) (trees : List Sor
   -- by the target of its killed schema, renamed
   by_killed : (sort : SortId) (t : Tree) → InU parts sort t → ((w : Tree) → IsBefore parts w t → InU parts sort w → Reached sort w)
       → (front : List Entry) (q : Equation) (steps : List Step) (back : List Entry) → all ≡ front ++ e.Killed q steps ∷ back
-      → IsKilled parts pools front q steps → schema_of t ≡ schema_of q.left → Reached sort t
-  by_killed sort t bounded have front q steps back split is schema = by_way_of sort t w (inr before) same derivable (have w before w_bounded)
+      → IsKilled parts front q steps → Agrees parts pools q.left q.right → schema_of t ≡ schema_of q.left → Reached sort t
+  by_killed sort t bounded have front q steps back split is agree schema = by_way_of sort t w (inr before) same derivable (have w before w_bounded)
     where
       is_t : substituted (renamed (filling t)) q.left ≡ t
       is_t = filled q.left t is.general (sym schema)
@@ -174,7 +174,7 @@ module _ (parts : SigParts) (pools : Pools) (all : List Entry) (trees : List Sor
       same : Same parts pools t (substituted (renamed (filling t)) q.right)
       same = subst (λ x. Same parts pools x (substituted (renamed (filling t)) q.right)) is_t
           (same_renamed parts pools wide (filling t) (filling_renames parts t (bounded_vars parts t bounded.bounded)) q.left q.right
-          (bounded_vars parts q.left is.left.bounded) (bounded_vars parts q.right is.right.bounded) is.agree.same)
+          (bounded_vars parts q.left is.left.bounded) (bounded_vars parts q.right is.right.bounded) agree.same)
 
       derivable : Derivable parts (base_of parts all) t (substituted (renamed (filling t)) q.right)
       derivable = subst (λ x. Derivable parts (base_of parts all) x (substituted (renamed (filling t)) q.right)) is_t
@@ -192,7 +192,7 @@ module _ (parts : SigParts) (pools : Pools) (all : List Entry) (trees : List Sor
   by_schema sort t bounded live have front (e.Killed q steps) back split is at = by (in_rest at)
     where
       by : (schema_of t ≡ schema_of q.left) ⊎ In (schema_of t) [] → Reached sort t
-      by (inl same) = by_killed sort t bounded have front q steps back split is.0 same
+      by (inl same) = by_killed sort t bounded have front q steps back split is.0 is.1 same
       by (inr no_more) = in_none no_more
   by_schema sort t bounded live have front (e.Spread c) back split is at = by (in_rest at)
     where

@@ -5,3 +5,6 @@ pub mod Splits
 pub mod Trees
 pub mod Valid
 pub mod Coverage
+pub mod Expected
+pub mod Judged
+pub mod Checking

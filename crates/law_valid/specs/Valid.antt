@@ -44,8 +44,8 @@ IsBackgroundTrue parts pools = Each (λ (q : Equation). Agrees parts pools q.lef
 -- Entries, each by those before it
 
 -- equation numbers run on from the background
-abbrev pub IsNext : SigParts → List Entry → ℕ → Type 0
-IsNext parts before number = number ≡ length (known parts before) + 1
+abbrev pub IsNumber : SigParts → List Entry → ℕ → Type 0
+IsNumber parts before number = number ≡ length (known parts before) + 1
 
 -- both sides are well-sorted, of one sort; the chain leads from left to right by equations before it
 pub record IsLemma (parts : SigParts) (before : List Entry) (q : Equation) (steps : List Step) : Type 0 where
@@ -54,33 +54,32 @@ pub record IsLemma (parts : SigParts) (before : List Entry) (q : Equation) (step
   pub right : sort_of parts q.right ≡ Some sort
   pub chain : Replays parts (known parts before) steps q.left q.right
 
--- a killed schema is shown by its most general instance and by a target in the universe, of its sort and of a schema that
--- stands before it; both have one value at every test, and a chain by equations before it leads from one to the other
-pub record IsKilled (parts : SigParts) (pools : Pools) (before : List Entry) (q : Equation) (steps : List Step) : Type 0 where
+-- a schema is killed by its most general instance and a target in the universe, of its sort and of a schema that stands
+-- before it; a chain by equations before it leads from one to the other
+pub record IsKilled (parts : SigParts) (before : List Entry) (q : Equation) (steps : List Step) : Type 0 where
   pub sort : SortId
   pub left : InU parts sort q.left
   pub general : IsNumbered q.left
   pub right : InU parts sort q.right
   pub falls : IsBefore parts (schema_of q.right) (schema_of q.left)
   pub chain : Replays parts (known parts before) steps q.left q.right
-  pub agree : Agrees parts pools q.left q.right
 
--- a moved term has an earlier live term of its sort as its target; both have one value at every test, and a chain by
--- equations before it leads from one to the other
-pub record IsMoved (parts : SigParts) (pools : Pools) (before : List Entry) (q : Equation) (steps : List Step) : Type 0 where
+-- a term is moved to an earlier live term of its sort; a chain by equations before it leads from one to the other
+pub record IsMoved (parts : SigParts) (before : List Entry) (q : Equation) (steps : List Step) : Type 0 where
   pub earlier : In q.right (stated live_at before)
   pub sorts : sort_of parts q.left ≡ sort_of parts q.right
   pub chain : Replays parts (known parts before) steps q.left q.right
-  pub agree : Agrees parts pools q.left q.right
 
--- after a spread schema stand exactly its instances over all live terms of the certificate, and after a killed one none
+-- What is asked of an entry, by the entries before it and after it: after a spread schema stand exactly its instances over
+-- all live terms of the certificate, after a killed one no term; and a killed schema and a moved term have their target's
+-- value at every test
 abbrev pub IsEntry : SigParts → Pools → List Entry → List Entry → Entry → List Entry → Type 0
-IsEntry parts pools all before (e.Law number q) after = IsNext parts before number × IsLaw parts pools q
-IsEntry parts pools all before (e.Lemma number q steps) after = IsNext parts before number × IsLemma parts before q steps
+IsEntry parts pools all before (e.Law number q) after = IsNumber parts before number × IsLaw parts pools q
+IsEntry parts pools all before (e.Lemma number q steps) after = IsNumber parts before number × IsLemma parts before q steps
 IsEntry parts pools all before (e.Spread c) after = AreExactly parts (IsInstance parts (stated live_at all) c) (terms_after after)
-IsEntry parts pools all before (e.Killed q steps) after = IsKilled parts pools before q steps × (terms_after after ≡ [])
+IsEntry parts pools all before (e.Killed q steps) after = IsKilled parts before q steps × Agrees parts pools q.left q.right × (terms_after after ≡ [])
 IsEntry parts pools all before (e.Live t) after = Unit {0}
-IsEntry parts pools all before (e.Moved q steps) after = IsMoved parts pools before q steps
+IsEntry parts pools all before (e.Moved q steps) after = IsMoved parts before q steps × Agrees parts pools q.left q.right
 
 -- The whole certificate: the schema entries are exactly the schemas that are considered over its own spread ones, and no
 -- term stands before the first of them

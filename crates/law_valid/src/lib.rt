@@ -4,6 +4,8 @@
 
 mod certificate;
 mod laws;
+mod rule;
 
 pub use certificate::{Bind, Branch, Class, Dir, Entry, SortTree, Step};
-pub use laws::coverage_laws;
+pub use laws::{checking_laws, coverage_laws};
+pub use rule::Rule;
