@@ -1,0 +1,13 @@
+pub mod StatedFacts
+pub mod Derive
+pub mod Blocks
+pub mod Reach
+pub mod Apart
+pub mod Covered
+pub mod Verdicts
+pub mod Walks
+pub mod Considering
+pub mod Passing
+pub mod Walked
+pub mod Passed
+pub mod Checked

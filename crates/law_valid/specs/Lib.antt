@@ -1,0 +1,10 @@
+pub mod Stated
+pub mod Chains
+pub mod Schemas
+pub mod Splits
+pub mod Trees
+pub mod Valid
+pub mod Coverage
+pub mod Expected
+pub mod Judged
+pub mod Checking

@@ -1,0 +1,14 @@
+ghost use Rattle.law_valid.specs.Checking.{YesIsValid, OneAnswer};
+ghost use Rattle.law_valid.specs.Coverage.{ChainsDerive, ValidCovers};
+
+/// The laws of a valid certificate cover the universe. A chain that replays is a derivation.
+pub fn coverage_laws()
+    ensures chains { ChainsDerive }
+    ensures covers { ValidCovers }
+{}
+
+/// The order of checking finds nothing wrong exactly where the certificate is valid, and has one answer at most.
+pub fn checking_laws()
+    ensures exact { YesIsValid }
+    ensures one { OneAnswer }
+{}

@@ -1,0 +1,11 @@
+//! What makes a certificate valid, as a definition, and what validity proves, as laws: each function here has an empty
+//! body, and its contract is the law.
+#![tactic(auto)]
+
+mod certificate;
+mod laws;
+mod rule;
+
+pub use certificate::{Bind, Branch, Class, Dir, Entry, SortTree, Step};
+pub use laws::{checking_laws, coverage_laws};
+pub use rule::Rule;
