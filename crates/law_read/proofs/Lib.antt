@@ -19,6 +19,7 @@ pub mod RowWhole
 pub mod LineSteps
 pub mod LineWords
 pub mod Grown
+pub mod SegmentTexts
 pub mod Spaced
 pub mod TextReads
 pub mod Walks
