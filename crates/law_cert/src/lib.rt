@@ -4,6 +4,8 @@
 
 mod cert;
 mod error;
+mod write;
 
 pub use cert::{Cert, Dir, Entry, LawList, Mark, RawBind, RawStep, RawValues, SortTree, TreeLine};
 pub use error::CertErr;
+pub use write::{write_cert, write_law, write_list};
