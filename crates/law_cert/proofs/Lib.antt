@@ -4,3 +4,6 @@ pub mod RowFacts
 pub mod TailFacts
 pub mod DraftFacts
 pub mod BodyText
+pub mod OneCertLine
+pub mod RunFacts
+pub mod OneCert

@@ -81,10 +81,10 @@ digits_free [] h = refl
 digits_free (b ∷ bytes) h =
     let q = both (is_digit b) (list_all is_digit bytes) h in ap (λ t. t && is_undotted bytes) (digit_free b q.0) ∙ digits_free bytes q.1
 
-index_undotted : (n : ℕ) → IsIndex n → is_undotted (decimal n) ≡ true
+pub index_undotted : (n : ℕ) → IsIndex n → is_undotted (decimal n) ≡ true
 index_undotted n h = digits_free (decimal n) (numeral_digits (decimal n) (decimal_numeral n (omega arith)).0)
 
-follows_dots : (numbers : List ℕ) → Follows 46 (dotted numbers)
+pub follows_dots : (numbers : List ℕ) → Follows 46 (dotted numbers)
 follows_dots [] = tt
 follows_dots (n ∷ numbers) = refl
 

@@ -177,7 +177,7 @@ key_again k.Class = refl
 key_again k.Leaf = refl
 key_again k.End = refl
 
-key_unspaced : (key : Key) → is_unspaced (key_text key) ≡ true
+pub key_unspaced : (key : Key) → is_unspaced (key_text key) ≡ true
 key_unspaced k.Pool = refl
 key_unspaced k.Values = refl
 key_unspaced k.Law = refl
@@ -209,7 +209,7 @@ line_parts (c.Node (n.Class numbers)) = refl
 line_parts (c.Node (n.Leaf number)) = refl
 line_parts c.End = refl
 
-tail_behind : (line : CertLine) → IsBehind (tail_text line)
+pub tail_behind : (line : CertLine) → IsBehind (tail_text line)
 tail_behind c.Pool = tt
 tail_behind (c.Values values) = refl
 tail_behind (c.Entry (e.Law number mark left right)) = refl

@@ -5,3 +5,4 @@ pub mod CertLines
 pub mod Drafts
 pub mod Readers
 pub mod Finishes
+pub mod Laws
