@@ -23,6 +23,7 @@ use Rattle.law_read.proofs.Clean.{IsClean, clean_arg, clean_name, clean_number, 
 use Rattle.law_read.proofs.OneLine.{one_line}
 use Rattle.law_read.proofs.Whole.{IsWholeFrom, line_no_feed, no_feed, nothing_else, same_line, whole_of}
 use Rattle.law_cert.specs.declared.cert.Cert.{Cert}
+use Rattle.law_cert.specs.declared.cert.LawList.{LawList}
 use Rattle.law_cert.specs.declared.cert.Dir.{Dir}
 use Rattle.law_cert.specs.declared.cert.Dir.TheVariants.{LeftToRight, RightToLeft}
 use Rattle.law_cert.specs.declared.cert.Mark.{Mark}
@@ -38,13 +39,13 @@ use Rattle.law_cert.specs.declared.cert.TreeLine.TheVariants as n
 use Rattle.law_cert.specs.declared.line.CertLine.{CertLine}
 use Rattle.law_cert.specs.declared.line.CertLine.TheVariants as c
 use Rattle.law_cert.specs.declared.draft.Draft.TheVariants as d
-use Rattle.law_cert.specs.Spelling.{bind_text, cert_lines, cert_spelling, dir_text, dotted, equation_words, mark_text, pos_text, steps_of}
-use Rattle.law_cert.specs.Certificates.{IsBind, IsCertText, IsEntry, IsIndex, IsNode, IsPool, IsStep, IsTree, IsValues, IsWritten}
+use Rattle.law_cert.specs.Spelling.{bind_text, cert_lines, cert_spelling, dir_text, dotted, equation_words, list_lines, list_spelling, mark_text, pos_text}
+use Rattle.law_cert.specs.Certificates.{IsBind, IsCertText, IsEntry, IsIndex, IsListText, IsNode, IsPlainLaw, IsPool, IsStep, IsTree, IsValues, IsWritten}
 use Rattle.law_cert.specs.CertLines.{IsCertLine, line_text}
 use Rattle.law_cert.specs.Drafts.{bare, entry_read, pool_read, read_of, tree_read}
 use Rattle.law_cert.specs.Readers.{body_lines, head_text}
 use Rattle.law_cert.proofs.BodyText.{body_text}
-use Rattle.law_cert.proofs.OneCertLine.{one_cert_lines}
+use Rattle.law_cert.proofs.OneCertLine.{IsLoose, loose, one_cert_lines, one_loose_lines}
 use Rattle.law_cert.proofs.RunFacts.{one_body}
 
 -- the bytes of a line are printed ones
@@ -233,6 +234,79 @@ one_cert cert other h g same =
     (one_cert_lines (read_of (d.Over cert.pools cert.entries cert.trees)) (read_of (d.Over other.pools other.entries other.trees)) (body_valid cert h) (body_valid other g) q.1) in
     ap (λ z. made z cert.pools cert.entries cert.trees) q.0 ∙ ap (λ z. made other.sig z cert.entries cert.trees) b.0 ∙ ap (λ z. made other.sig other.pools z cert.trees) b.1
     ∙ ap (λ z. made other.sig other.pools other.entries z) b.2
+  where
+    behind : {x : List ℕ} {xs ys : List (List ℕ)} → x ∷ xs ≡ x ∷ ys → xs ≡ ys
+    behind e = cc
+
+-- Law lists.
+law_unbroken : (entry : Entry) → IsPlainLaw entry → IsUnbroken (line_text (c.Entry entry))
+law_unbroken (e.Law number mark left right) h =
+    unbroken (codes "law") (decimal number ∷ mark_text mark ∷ equation_words left right) refl (number_printed number h.0, (mark_printed mark, sides_printed left right h.2 h.3))
+law_unbroken (e.Lemma number left right steps) h = absurd h
+law_unbroken (e.Spread term) h = absurd h
+law_unbroken (e.Killed general target steps) h = absurd h
+law_unbroken (e.Live term) h = absurd h
+law_unbroken (e.Moved term target steps) h = absurd h
+
+-- what a law list has behind its signature, each line with a reading of its own and no line feed
+record IsListLine (line : CertLine) : Type 0 where
+  loose : IsLoose line
+  whole : IsUnbroken (line_text line)
+
+list_line : (line : CertLine) → IsCertLine line → IsListLine line
+list_line line h = record { loose = loose line h; whole = line_unbroken line h }
+
+law_lines : (laws : List Entry) → AllByRecursion IsPlainLaw laws → AllByRecursion IsListLine (flat_map entry_read laws)
+law_lines [] h = tt
+law_lines (e.Law number mark left right ∷ laws) h =
+    (record { loose = ((h.0.0, h.0.2, h.0.3), refl); whole = law_unbroken (e.Law number mark left right) h.0 }, law_lines laws h.1)
+law_lines (e.Lemma number left right steps ∷ laws) h = absurd h.0
+law_lines (e.Spread term ∷ laws) h = absurd h.0
+law_lines (e.Killed general target steps ∷ laws) h = absurd h.0
+law_lines (e.Live term ∷ laws) h = absurd h.0
+law_lines (e.Moved term target steps ∷ laws) h = absurd h.0
+
+cert_list_lines : (lines : List CertLine) → AllByRecursion IsCertLine lines → AllByRecursion IsListLine lines
+cert_list_lines [] h = tt
+cert_list_lines (line ∷ lines) h = (list_line line h.0, cert_list_lines lines h.1)
+
+list_body : (list : LawList) → IsListText list → AllByRecursion IsListLine (read_of (d.Over list.pools list.laws []))
+list_body list h =
+    all_join CertLine IsListLine (flat_map pool_read list.pools) (flat_map entry_read list.laws ++ c.End ∷ [])
+    (cert_list_lines (flat_map pool_read list.pools) (all_lines (List RawValues) IsPool pool_read pool_valid list.pools h.pools.each))
+    (all_join CertLine IsListLine (flat_map entry_read list.laws) (c.End ∷ []) (law_lines list.laws h.laws) (list_line c.End tt, tt))
+
+all_loose_of : (lines : List CertLine) → AllByRecursion IsListLine lines → AllByRecursion IsLoose lines
+all_loose_of [] h = tt
+all_loose_of (line ∷ lines) h = (h.0.loose, all_loose_of lines h.1)
+
+all_whole_of : (lines : List CertLine) → AllByRecursion IsListLine lines → AllByRecursion IsUnbroken (map line_text lines)
+all_whole_of [] h = tt
+all_whole_of (line ∷ lines) h = (h.0.whole, all_whole_of lines h.1)
+
+abbrev list_of : LawList → List (List ℕ)
+list_of list = codes "lawlist 1" ∷ (map line_spelling list.sig ++ body_lines (d.Over list.pools list.laws []))
+
+list_are : (list : LawList) → list_lines list ≡ list_of list
+list_are list = ap (λ l. codes "lawlist 1" ∷ (map line_spelling list.sig ++ l)) (sym (body_text list.pools list.laws []))
+
+list_unbroken : (list : LawList) → IsListText list → AllByRecursion IsUnbroken (list_of list)
+list_unbroken list h = (
+  refl,
+  all_join (List ℕ) IsUnbroken (map line_spelling list.sig) (body_lines (d.Over list.pools list.laws [])) (sig_unbroken list.sig h.sig.each)
+  (all_whole_of (read_of (d.Over list.pools list.laws [])) (list_body list h)),
+)
+
+abbrev list_made : List RawLine → List (List RawValues) → List Entry → LawList
+list_made sig pools laws = record { sig = sig; pools = pools; laws = laws }
+
+pub one_list : (list other : LawList) → IsListText list → IsListText other → list_spelling list ≡ list_spelling other → list ≡ other
+one_list list other h g same =
+    let t = one_text (list_of list) (list_of other) (list_unbroken list h) (list_unbroken other g) (ap text_of (sym (list_are list)) ∙ same ∙ ap text_of (list_are other)) in
+    let q = one_front start list.sig other.sig (body_lines (d.Over list.pools list.laws [])) (body_lines (d.Over other.pools other.laws [])) (whole_of list.sig h.sig) (whole_of other.sig g.sig) (behind t) in
+    let b = one_body list.pools other.pools list.laws other.laws [] [] h.pools g.pools tt tt
+    (one_loose_lines (read_of (d.Over list.pools list.laws [])) (read_of (d.Over other.pools other.laws [])) (all_loose_of (read_of (d.Over list.pools list.laws [])) (list_body list h)) (all_loose_of (read_of (d.Over other.pools other.laws [])) (list_body other g)) q.1) in
+    ap (λ z. list_made z list.pools list.laws) q.0 ∙ ap (λ z. list_made other.sig z list.laws) b.0 ∙ ap (λ z. list_made other.sig other.pools z) b.1
   where
     behind : {x : List ℕ} {xs ys : List (List ℕ)} → x ∷ xs ≡ x ∷ ys → xs ≡ ys
     behind e = cc

@@ -25,18 +25,19 @@ use Rattle.law_cert.specs.declared.cert.Dir.TheVariants.{LeftToRight, RightToLef
 use Rattle.law_cert.specs.declared.cert.RawBind.{RawBind}
 use Rattle.law_cert.specs.declared.cert.RawStep.{RawStep}
 use Rattle.law_cert.specs.declared.cert.RawValues.{RawValues}
+use Rattle.law_cert.specs.declared.cert.Entry.{Entry}
 use Rattle.law_cert.specs.declared.cert.Entry.TheVariants as e
 use Rattle.law_cert.specs.declared.cert.TreeLine.TheVariants as n
 use Rattle.law_cert.specs.declared.line.CertLine.{CertLine}
 use Rattle.law_cert.specs.declared.line.CertLine.TheVariants as c
 use Rattle.law_cert.specs.declared.line.Key.{Key}
 use Rattle.law_cert.specs.declared.line.Key.TheVariants as k
-use Rattle.law_cert.specs.Spelling.{bind_text, dir_text, dotted, equation_words, mark_text, pos_text}
-use Rattle.law_cert.specs.Certificates.{IsBind, IsEarned, IsIndex, IsWritten}
-use Rattle.law_cert.specs.Words.{Follows, IsBehind, One, row_text}
+use Rattle.law_cert.specs.Spelling.{bind_text, dir_text, dotted, equation_words, mark_text, pos_text, steps_of}
+use Rattle.law_cert.specs.Certificates.{IsBind, IsEntry, IsIndex, IsWritten}
+use Rattle.law_cert.specs.Words.{One, is_unspaced, row_text}
 use Rattle.law_cert.specs.CertLines.{IsCertLine, key_of, key_text, line_key, line_text, tail_text}
 use Rattle.law_cert.proofs.ArgFacts.{one_bind}
-use Rattle.law_cert.proofs.PartFacts.{cut_once, dir_unspaced, mark_unspaced, number_unspaced, pos_unspaced}
+use Rattle.law_cert.proofs.PartFacts.{cut_once, dir_unspaced, pos_unspaced}
 use Rattle.law_cert.proofs.RowFacts.{behind_row, follows_dots, index_undotted, one_number}
 use Rattle.law_cert.proofs.TailFacts.{key_again, key_unspaced, line_parts, tail_behind}
 
@@ -53,25 +54,30 @@ one_row A P text one (x ∷ xs) (y ∷ ys) h g e =
     ap (λ z. z ∷ xs) q.0 ∙ ap (λ zs. y ∷ zs) (one_row A P text one xs ys h.1 g.1 q.1)
 
 -- marks, directions and positions
-abbrev mark_by : Bool → Bool → Mark
-mark_by true spent = Saturated
-mark_by false true = Spent
-mark_by false false = Aside
+abbrev mark_by : Bool → Bool → Bool → Mark
+mark_by true spent aside = Saturated
+mark_by false true aside = Spent
+mark_by false false true = Aside
+mark_by false false false = Plain
 
 abbrev mark_from : List ℕ → Mark
-mark_from bytes = mark_by (bytes_eq bytes (codes "saturated")) (bytes_eq bytes (codes "spent"))
+mark_from bytes = mark_by (bytes_eq bytes (codes "saturated")) (bytes_eq bytes (codes "spent")) (bytes_eq bytes (codes "aside"))
 
-mark_back : (mark : Mark) → IsEarned mark → mark_from (mark_text mark) ≡ mark
-mark_back Saturated h = refl
-mark_back Spent h = refl
-mark_back Aside h = refl
-mark_back Plain h = absurd h
+mark_back : (mark : Mark) → mark_from (mark_text mark) ≡ mark
+mark_back Saturated = refl
+mark_back Spent = refl
+mark_back Aside = refl
+mark_back Plain = refl
 
-same_mark : (x y : Mark) → IsEarned x → IsEarned y → mark_text x ≡ mark_text y → x ≡ y
-same_mark x y h g e = sym (mark_back x h) ∙ ap mark_from e ∙ mark_back y g
+any_unspaced : (mark : Mark) → is_unspaced (mark_text mark) ≡ true
+any_unspaced Saturated = refl
+any_unspaced Spent = refl
+any_unspaced Aside = refl
+any_unspaced Plain = refl
 
-one_mark : One Mark IsEarned mark_text
-one_mark x y b c h g hb hc e = let q = cut_once 32 (mark_text x) (mark_text y) b c (mark_unspaced x h) (mark_unspaced y g) hb hc e in (same_mark x y h g q.0, q.1)
+one_mark : One Mark (λ mark. Unit {0}) mark_text
+one_mark x y b c h g hb hc e =
+    let q = cut_once 32 (mark_text x) (mark_text y) b c (any_unspaced x) (any_unspaced y) hb hc e in (sym (mark_back x) ∙ ap mark_from q.0 ∙ mark_back y, q.1)
 
 abbrev dir_by : Bool → Dir
 dir_by true = LeftToRight
@@ -130,14 +136,23 @@ then_part : (A : Type 0) (P : A → Type 0) (text : A → List ℕ) → One A P 
 then_part A P text one x y words others h g e =
     one x y (spaced words) (spaced others) h g (behind_row words) (behind_row others) (one_behind (text x ++ spaced words) (text y ++ spaced others) e)
 
+-- a line of a certificate or of a law list
+abbrev pub IsLooseEntry : Entry → Type 0
+IsLooseEntry (e.Law number mark left right) = IsNumber number × IsWritten left × IsWritten right
+IsLooseEntry entry = IsEntry entry
+
+abbrev pub IsLoose : CertLine → Type 0
+IsLoose (c.Entry entry) = IsLooseEntry entry × (steps_of entry ≡ [])
+IsLoose line = IsCertLine line
+
 abbrev IsTold : CertLine → Key → CertLine → Type 0
-IsTold x key y = IsCertLine x → IsCertLine y → key ≡ line_key y → tail_text x ≡ tail_text y → x ≡ y
+IsTold x key y = IsLoose x → IsLoose y → key ≡ line_key y → tail_text x ≡ tail_text y → x ≡ y
 
 law_told : (number : ℕ) (mark : Mark) (left right : RawTerm) (y : CertLine) → IsTold (c.Entry (e.Law number mark left right)) k.Law y
 law_told number mark left right (c.Entry (e.Law m o l t)) h g key s =
     let a = then_part ℕ IsNumber decimal one_number number m (mark_text mark ∷ equation_words left right) (mark_text o ∷ equation_words l t) h.0.0 g.0.0 s in
-    let b = then_part Mark IsEarned mark_text one_mark mark o (equation_words left right) (equation_words l t) h.0.1 g.0.1 a.1 in
-    let d = one_sides left right l t h.0.2 h.0.3 g.0.2 g.0.3 b.1 in
+    let b = then_part Mark (λ mark. Unit {0}) mark_text one_mark mark o (equation_words left right) (equation_words l t) tt tt a.1 in
+    let d = one_sides left right l t h.0.1 h.0.2 g.0.1 g.0.2 b.1 in
     ap (λ z. c.Entry (e.Law z mark left right)) a.0 ∙ ap (λ z. c.Entry (e.Law m z left right)) b.0 ∙ ap (λ z. c.Entry (e.Law m o z right)) d.0 ∙ ap (λ z. c.Entry (e.Law m o l z)) d.1
 law_told number mark left right (c.Node (n.Leaf m)) h g key s = absurd cc
 law_told number mark left right y h g key s = absurd cc
@@ -252,8 +267,25 @@ told (c.Node (n.Class numbers)) y = class_told numbers y
 told (c.Node (n.Leaf number)) y = leaf_told number y
 told c.End y = end_told y
 
-pub one_cert_line : (x y : CertLine) → IsCertLine x → IsCertLine y → line_text x ≡ line_text y → x ≡ y
-one_cert_line x y h g same =
+loose_entry : (entry : Entry) → IsEntry entry → IsLooseEntry entry
+loose_entry (e.Law number mark left right) h = (h.0, h.2, h.3)
+loose_entry (e.Lemma number left right steps) h = h
+loose_entry (e.Spread term) h = h
+loose_entry (e.Killed general target steps) h = h
+loose_entry (e.Live term) h = h
+loose_entry (e.Moved term target steps) h = h
+
+pub loose : (line : CertLine) → IsCertLine line → IsLoose line
+loose c.Pool h = h
+loose (c.Values values) h = h
+loose (c.Entry entry) h = (loose_entry entry h.0, h.1)
+loose (c.Step step) h = h
+loose (c.Tree sort) h = h
+loose (c.Node node) h = h
+loose c.End h = h
+
+one_loose_line : (x y : CertLine) → IsLoose x → IsLoose y → line_text x ≡ line_text y → x ≡ y
+one_loose_line x y h g same =
     let q = cut_once 32 (key_text (line_key x)) (key_text (line_key y)) (tail_text x) (tail_text y) (key_unspaced (line_key x)) (key_unspaced (line_key y)) (tail_behind x) (tail_behind y)
     (sym (line_parts x) ∙ same ∙ line_parts y) in
     told x y h g (one_key (line_key x) (line_key y) (sym (key_again (line_key x)) ∙ ap key_of q.0 ∙ key_again (line_key y))) q.1
@@ -261,11 +293,21 @@ one_cert_line x y h g same =
     one_key : (a b : Key) → Some a ≡ Some b → a ≡ b
     one_key a b e = cc
 
+pub one_cert_line : (x y : CertLine) → IsCertLine x → IsCertLine y → line_text x ≡ line_text y → x ≡ y
+one_cert_line x y h g same = one_loose_line x y (loose x h) (loose y g) same
+
 -- the same of lines
-pub one_cert_lines : (xs ys : List CertLine) → AllByRecursion IsCertLine xs → AllByRecursion IsCertLine ys → map line_text xs ≡ map line_text ys → xs ≡ ys
-one_cert_lines [] [] h g e = refl
-one_cert_lines [] (y ∷ ys) h g e = absurd cc
-one_cert_lines (x ∷ xs) [] h g e = absurd cc
-one_cert_lines (x ∷ xs) (y ∷ ys) h g e =
+pub one_loose_lines : (xs ys : List CertLine) → AllByRecursion IsLoose xs → AllByRecursion IsLoose ys → map line_text xs ≡ map line_text ys → xs ≡ ys
+one_loose_lines [] [] h g e = refl
+one_loose_lines [] (y ∷ ys) h g e = absurd cc
+one_loose_lines (x ∷ xs) [] h g e = absurd cc
+one_loose_lines (x ∷ xs) (y ∷ ys) h g e =
     let f : line_text x ≡ line_text y = cc in let m : map line_text xs ≡ map line_text ys = cc in
-    ap (λ z. z ∷ xs) (one_cert_line x y h.0 g.0 f) ∙ ap (λ zs. y ∷ zs) (one_cert_lines xs ys h.1 g.1 m)
+    ap (λ z. z ∷ xs) (one_loose_line x y h.0 g.0 f) ∙ ap (λ zs. y ∷ zs) (one_loose_lines xs ys h.1 g.1 m)
+
+all_loose : (xs : List CertLine) → AllByRecursion IsCertLine xs → AllByRecursion IsLoose xs
+all_loose [] h = tt
+all_loose (x ∷ xs) h = (loose x h.0, all_loose xs h.1)
+
+pub one_cert_lines : (xs ys : List CertLine) → AllByRecursion IsCertLine xs → AllByRecursion IsCertLine ys → map line_text xs ≡ map line_text ys → xs ≡ ys
+one_cert_lines xs ys h g e = one_loose_lines xs ys (all_loose xs h) (all_loose ys g) e

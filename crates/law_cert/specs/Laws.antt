@@ -1,9 +1,10 @@
 -- Laws of certificates as texts, each proved by the contract of a function in `src/laws.rt`.
 use Rattle.std.specs.Prelude.{◌≡◌}
 use Rattle.law_cert.specs.declared.cert.Cert.{Cert}
+use Rattle.law_cert.specs.declared.cert.LawList.{LawList}
 use Rattle.law_cert.specs.declared.line.CertLine.{CertLine}
-use Rattle.law_cert.specs.Spelling.{cert_spelling}
-use Rattle.law_cert.specs.Certificates.{IsCertText}
+use Rattle.law_cert.specs.Spelling.{cert_spelling, list_spelling}
+use Rattle.law_cert.specs.Certificates.{IsCertText, IsListText}
 use Rattle.law_cert.specs.CertLines.{IsCertLine, line_text}
 
 -- Bytes are the spelling of one line behind a signature at most.
@@ -13,3 +14,7 @@ OneLine = (line other : CertLine) → IsCertLine line → IsCertLine other → l
 -- A text is the spelling of one certificate at most.
 abbrev pub OneCert : Type 0
 OneCert = (cert other : Cert) → IsCertText cert → IsCertText other → cert_spelling cert ≡ cert_spelling other → cert ≡ other
+
+-- A text is the spelling of one law list at most.
+abbrev pub OneList : Type 0
+OneList = (list other : LawList) → IsListText list → IsListText other → list_spelling list ≡ list_spelling other → list ≡ other
