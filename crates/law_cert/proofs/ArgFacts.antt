@@ -1,17 +1,14 @@
 -- The argument of a step's binding, and the binding.
-use Rattle.std.proofs.Common.{◌≡◌, ℕ, zero, suc, ◌+◌, ◌<◌, ◌≤◌, ◌^◌, Bool, true, false, ◌&&◌, ◌==◌, not, List, [], ◌∷◌, ◌++◌, Option, Some, None, Result, Ok, Err, IfOk, refl, ap, sym, subst, ◌∙◌, arith, map, decimal, length, take, drop, get_or}
+use Rattle.std.proofs.Common.{◌≡◌, ℕ, zero, suc, ◌+◌, ◌<◌, ◌≤◌, ◌^◌, Bool, true, false, ◌&&◌, ◌==◌, not, List, [], ◌∷◌, ◌++◌, Option, Some, None, Result, Ok, Err, IfOk, refl, ap, sym, ◌∙◌, arith, map, decimal, length, take, drop, get_or}
 use Rattle.std.proofs.lemmas.Bool.Decides.{nat_tests}
 use Rattle.std.proofs.lemmas.Grind.{common_steps}
 use Rattle.std.proofs.lemmas.List.{append_assoc, append-nil}
-use Rattle.std.specs.List.{list_all, AllByRecursion}
+use Rattle.std.specs.List.{list_all}
 use Rattle.std.proofs.lemmas.Fmt.{decimal_injective}
 use Rattle.std.proofs.Math.Seq.{drop-cons}
 use Rattle.law_text.specs.Pieces.{is_plain}
 use Rattle.law_text.specs.Words.{is_name, is_name_byte, is_word_of_letters}
-use Rattle.law_read.specs.declared.raw.RawHead.{RawHead}
-use Rattle.law_read.specs.declared.raw.RawHead.TheVariants.{Var}
 use Rattle.law_read.specs.declared.raw.RawTerm.{RawTerm}
-use Rattle.law_read.specs.declared.raw.RawTerm.TheOpen.{RawTerm-F}
 use Rattle.law_read.specs.declared.raw.RawTerm.TheFolds.{fold_out-RawTerm}
 use Rattle.law_read.specs.declared.raw.RawTerm.TheViews.{out-RawTerm}
 use Rattle.law_read.specs.declared.want.Bounds.TheVariants.{Kept}
@@ -19,10 +16,9 @@ use Rattle.law_read.specs.declared.want.Place.TheVariants as p
 use Rattle.law_read.specs.FirstArg.{above, word_at, word_by}
 use Rattle.law_read.specs.Lines.{IsName}
 use Rattle.law_read.specs.Spelling.{arg_spelling, arg_step, bracketed, head_spelling, spaced, term_spelling}
-use Rattle.law_read.specs.Terms.{head_fits}
 use Rattle.law_read.proofs.Again.{all_named}
 use Rattle.law_read.proofs.RowSteps.{both}
-use Rattle.law_read.proofs.OneTerm.{after, head_back, head_plain, one_arg, one_term_law, term_fits, whole_arg}
+use Rattle.law_read.proofs.OneTerm.{after, head_plain, one_arg, one_term_law, term_fits, whole_arg}
 use Rattle.law_sig.specs.declared.seq.NoMemory.{NoMemory}
 use Rattle.law_cert.specs.declared.cert.RawBind.{RawBind}
 use Rattle.law_cert.specs.Spelling.{bind_text, var_text}

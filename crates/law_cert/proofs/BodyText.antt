@@ -1,6 +1,6 @@
 -- The lines that were read are those of the certificate.
 use Rattle.std.proofs.Common.{◌≡◌, ℕ, List, [], ◌∷◌, ◌++◌, Result, Ok, Err, IfOk, refl, ap, sym, subst, ◌∙◌, arith, map, length}
-use Rattle.std.proofs.lemmas.List.{append_assoc, append-nil}
+use Rattle.std.proofs.lemmas.List.{append-nil}
 use Rattle.std.specs.List.{flat_map, AllByRecursion}
 use Rattle.law_read.specs.declared.raw.RawLine.{RawLine}
 use Rattle.law_read.specs.Signature.{IsRawSig}
@@ -19,8 +19,8 @@ use Rattle.law_cert.specs.declared.draft.Draft.TheVariants as d
 use Rattle.law_cert.specs.declared.error.CertErr.{CertErr}
 use Rattle.law_cert.specs.declared.phase.Phase.{Phase}
 use Rattle.law_cert.specs.declared.phase.Phase.TheVariants as p
-use Rattle.law_cert.specs.Spelling.{cert_lines, cert_spelling, entry_lines, entry_spelling, node_spelling, pool_lines, step_spelling, steps_of, tree_lines, values_spelling}
-use Rattle.law_cert.specs.Certificates.{ArePools, IsCertText, IsEntry, IsTree}
+use Rattle.law_cert.specs.Spelling.{entry_lines, entry_spelling, node_spelling, pool_lines, step_spelling, steps_of, tree_lines, values_spelling}
+use Rattle.law_cert.specs.Certificates.{ArePools, IsEntry, IsTree}
 use Rattle.law_cert.specs.CertLines.{line_text}
 use Rattle.law_cert.specs.Drafts.{IsDraft, bare, entry_read, pool_read, tree_read}
 use Rattle.law_cert.specs.Readers.{Heard, IsFed, IsPhase, IsReadAs, IsWhole, body_lines, head_text, phase_lines, phase_refused, phase_starved}

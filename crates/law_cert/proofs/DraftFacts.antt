@@ -1,5 +1,5 @@
 -- One more line of a certificate: what was read grows by it, and stays what the grammar spells.
-use Rattle.std.proofs.Common.{◌≡◌, ℕ, zero, suc, ◌+◌, ◌*◌, ◌<◌, ◌≤◌, ◌^◌, Bool, true, false, List, [], ◌∷◌, ◌++◌, Option, Some, None, Result, Ok, Err, IfOk, refl, ap, sym, subst, ◌∙◌, arith, map, length}
+use Rattle.std.proofs.Common.{◌≡◌, ℕ, zero, suc, ◌+◌, ◌<◌, ◌≤◌, ◌^◌, List, [], ◌∷◌, ◌++◌, Option, Some, None, Result, Ok, Err, IfOk, refl, ap, sym, subst, ◌∙◌, arith, map, length}
 use Rattle.std.proofs.lemmas.Grind.{common_steps}
 use Rattle.std.proofs.lemmas.List.{append_assoc, append-nil}
 use Rattle.std.specs.List.{AllByRecursion, flat_map}
@@ -19,7 +19,7 @@ use Rattle.law_cert.specs.declared.draft.Owed.{Owed}
 use Rattle.law_cert.specs.Spelling.{steps_of}
 use Rattle.law_cert.specs.Certificates.{ArePools, AreTrees, IsEntry, IsNode, IsPool, IsStep, IsTree, IsValues}
 use Rattle.law_cert.specs.CertLines.{IsCertLine}
-use Rattle.law_cert.specs.Drafts.{IsDraft, IsDraftWith, IsGrowing, bare, behind_pools, behind_trees, closed_by, closed_pool, entered, entry_read, grown, noded, owes, paid, paid_by, planted, pool_read, pooled, read_of, started, stepped, tree_read, with_line, with_step}
+use Rattle.law_cert.specs.Drafts.{IsDraft, IsDraftWith, IsGrowing, behind_pools, behind_trees, closed_by, closed_pool, entered, entry_read, grown, noded, owes, paid, paid_by, planted, pool_read, pooled, read_of, stepped, tree_read, with_line, with_step}
 use Rattle.law_cert.proofs.RowFacts.{all_more}
 
 pub flat_more : (A : Type 0) (f : A → List CertLine) (xs : List A) (x : A) → flat_map f (xs ++ x ∷ []) ≡ flat_map f xs ++ f x

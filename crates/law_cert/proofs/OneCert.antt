@@ -1,6 +1,6 @@
 -- A text is the spelling of one certificate at most.
-use Rattle.std.proofs.Common.{◌≡◌, ℕ, ◌<◌, ◌^◌, Bool, true, false, ◌&&◌, List, [], ◌∷◌, ◌++◌, Option, Some, refl, ap, sym, subst, ◌∙◌, arith, map, decimal, codes}
-use Rattle.std.proofs.lemmas.List.{append_assoc, append-nil}
+use Rattle.std.proofs.Common.{◌≡◌, ℕ, ◌<◌, ◌^◌, true, List, [], ◌∷◌, ◌++◌, Option, Some, refl, ap, sym, subst, ◌∙◌, arith, map, decimal, codes}
+use Rattle.std.proofs.lemmas.List.{append_assoc}
 use Rattle.std.specs.List.{AllByRecursion, flat_map, list_all}
 use Rattle.law_read.specs.declared.raw.RawLine.{RawLine}
 use Rattle.law_read.specs.declared.raw.RawLine.TheVariants as r
@@ -9,15 +9,11 @@ use Rattle.law_read.specs.declared.stage.Stage.{Stage}
 use Rattle.law_read.specs.declared.stage.Key.{Key}
 use Rattle.law_read.specs.declared.stage.Key.TheVariants as key
 use Rattle.law_read.specs.declared.want.Bounds.TheVariants.{Kept}
-use Rattle.law_read.specs.declared.want.Place.{Place}
 use Rattle.law_read.specs.declared.want.Place.TheVariants as place
 use Rattle.law_read.specs.Faults.{is_printed}
 use Rattle.law_read.specs.Lines.{IsLine}
-use Rattle.law_read.specs.Order.{shape_of}
-use Rattle.law_read.specs.Signature.{IsRawSig}
 use Rattle.law_read.specs.Spelling.{arg_spelling, joined, line_spelling, spaced, term_words, text_of}
 use Rattle.law_read.specs.Stages.{InOrder, allows, line_key, stage_after, stage_behind, start}
-use Rattle.law_read.specs.Terms.{IsTerm}
 use Rattle.law_read.specs.Texts.{IsUnbroken}
 use Rattle.law_read.proofs.Clean.{IsClean, clean_arg, clean_name, clean_number, clean_term, printed_append}
 use Rattle.law_read.proofs.OneLine.{one_line}
@@ -42,7 +38,7 @@ use Rattle.law_cert.specs.declared.draft.Draft.TheVariants as d
 use Rattle.law_cert.specs.Spelling.{bind_text, cert_lines, cert_spelling, dir_text, dotted, equation_words, list_lines, list_spelling, mark_text, pos_text}
 use Rattle.law_cert.specs.Certificates.{IsBind, IsCertText, IsEntry, IsIndex, IsListText, IsNode, IsPlainLaw, IsPool, IsStep, IsTree, IsValues, IsWritten}
 use Rattle.law_cert.specs.CertLines.{IsCertLine, line_text}
-use Rattle.law_cert.specs.Drafts.{bare, entry_read, pool_read, read_of, tree_read}
+use Rattle.law_cert.specs.Drafts.{entry_read, pool_read, read_of, tree_read}
 use Rattle.law_cert.specs.Readers.{body_lines, head_text}
 use Rattle.law_cert.proofs.BodyText.{body_text}
 use Rattle.law_cert.proofs.OneCertLine.{IsLoose, loose, one_cert_lines, one_loose_lines}
@@ -104,7 +100,7 @@ binds_printed : (binds : List RawBind) → AllByRecursion IsBind binds → AllBy
 binds_printed [] h = tt
 binds_printed (bind ∷ binds) h = (
   printed_append (bind.sort ++ 46 ∷ decimal bind.index) (32 ∷ arg_spelling bind.term)
-  (printed_append bind.sort (46 ∷ decimal bind.index) (clean_name bind.sort h.0.sort).printed (index_printed bind.index h.0.index)) (clean_arg bind.term place.Equation h.0.term.nodes).printed,
+      (printed_append bind.sort (46 ∷ decimal bind.index) (clean_name bind.sort h.0.sort).printed (index_printed bind.index h.0.index)) (clean_arg bind.term place.Equation h.0.term.nodes).printed,
   binds_printed binds h.1,
 )
 
@@ -220,7 +216,7 @@ all_unbroken : (cert : Cert) → IsCertText cert → AllByRecursion IsUnbroken (
 all_unbroken cert h = (
   refl,
   all_join (List ℕ) IsUnbroken (map line_spelling cert.sig) (body_lines (d.Over cert.pools cert.entries cert.trees)) (sig_unbroken cert.sig h.sig.each)
-  (body_unbroken (read_of (d.Over cert.pools cert.entries cert.trees)) (body_valid cert h)),
+      (body_unbroken (read_of (d.Over cert.pools cert.entries cert.trees)) (body_valid cert h)),
 )
 
 abbrev made : List RawLine → List (List RawValues) → List Entry → List SortTree → Cert
@@ -294,7 +290,7 @@ list_unbroken : (list : LawList) → IsListText list → AllByRecursion IsUnbrok
 list_unbroken list h = (
   refl,
   all_join (List ℕ) IsUnbroken (map line_spelling list.sig) (body_lines (d.Over list.pools list.laws [])) (sig_unbroken list.sig h.sig.each)
-  (all_whole_of (read_of (d.Over list.pools list.laws [])) (list_body list h)),
+      (all_whole_of (read_of (d.Over list.pools list.laws [])) (list_body list h)),
 )
 
 abbrev list_made : List RawLine → List (List RawValues) → List Entry → LawList

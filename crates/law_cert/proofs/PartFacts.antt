@@ -1,14 +1,11 @@
 -- Parts of a line: where they are cut, and that each is told by its bytes.
-use Rattle.std.proofs.Common.{◌≡◌, ℕ, ◌<◌, ◌^◌, Bool, true, false, ◌&&◌, ◌==◌, not, List, [], ◌∷◌, ◌++◌, Option, Some, None, refl, ap, sym, subst, ◌∙◌, arith, map, decimal, length}
+use Rattle.std.proofs.Common.{◌≡◌, ℕ, ◌<◌, ◌^◌, Bool, true, false, ◌&&◌, ◌==◌, not, List, [], ◌∷◌, ◌++◌, refl, ap, sym, ◌∙◌, arith, decimal}
 use Rattle.std.proofs.lemmas.Bool.Decides.{nat_tests}
-use Rattle.std.proofs.lemmas.Fmt.{decimal_injective}
-use Rattle.std.proofs.lemmas.List.{append_assoc, append-nil}
 use Rattle.std.specs.List.{list_all, AllByRecursion}
 use Rattle.law_text.specs.Pieces.{is_plain}
 use Rattle.law_text.specs.Words.{is_name}
 use Rattle.law_read.specs.declared.want.Bounds.TheVariants.{Kept}
 use Rattle.law_read.specs.Lines.{IsName, IsNumber}
-use Rattle.law_read.specs.Spelling.{spaced}
 use Rattle.law_read.proofs.Again.{name_solid, number_solid}
 use Rattle.law_read.proofs.OneTerm.{solid_plain}
 use Rattle.law_read.proofs.RowSteps.{both}
@@ -18,7 +15,7 @@ use Rattle.law_cert.specs.declared.cert.Dir.{Dir}
 use Rattle.law_cert.specs.declared.cert.Dir.TheVariants.{LeftToRight, RightToLeft}
 use Rattle.law_cert.specs.Spelling.{dir_text, dotted, mark_text, pos_text}
 use Rattle.law_cert.specs.Certificates.{IsEarned, IsIndex}
-use Rattle.law_cert.specs.Words.{Exact, Follows, IsBehind, IsNextWord, NoFirst, is_free, is_unspaced}
+use Rattle.law_cert.specs.Words.{Follows, IsNextWord, NoFirst, is_free, is_unspaced}
 
 -- the first of some bytes isn't the mark
 not_mark : (mark b : ℕ) (t : Bool) → (b == mark) ≡ t → not t ≡ true → b ≡ mark → ⊥

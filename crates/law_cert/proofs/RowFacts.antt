@@ -1,9 +1,9 @@
 -- Rows of parts, to the end of a line.
-use Rattle.std.proofs.Common.{◌≡◌, ℕ, ◌<◌, ◌^◌, ◌+◌, Bool, true, false, ◌&&◌, ◌==◌, not, List, [], ◌∷◌, ◌++◌, Option, Some, None, refl, ap, sym, subst, ◌∙◌, arith, map, decimal, length, codes}
+use Rattle.std.proofs.Common.{◌≡◌, ℕ, ◌<◌, ◌^◌, Bool, true, false, ◌&&◌, ◌==◌, not, List, [], ◌∷◌, ◌++◌, refl, ap, sym, subst, ◌∙◌, arith, map, decimal, length}
 use Rattle.std.proofs.lemmas.Bool.Decides.{nat_tests}
 use Rattle.std.proofs.lemmas.Fmt.{decimal_injective}
 use Rattle.std.proofs.lemmas.List.{append_assoc, append-nil}
-use Rattle.std.specs.List.{list_all, AllByRecursion, flat_map}
+use Rattle.std.specs.List.{list_all, AllByRecursion}
 use Rattle.law_read.specs.Lines.{IsNumber}
 use Rattle.law_read.specs.Spelling.{spaced}
 use Rattle.law_text.specs.Words.{is_digit}
@@ -11,9 +11,9 @@ use Rattle.law_text.proofs.Numbers.{decimal_numeral}
 use Rattle.law_read.proofs.Again.{numeral_digits}
 use Rattle.law_read.proofs.RowSteps.{both}
 use Rattle.law_read.proofs.Spaced.{spaced_append}
-use Rattle.law_cert.specs.Spelling.{dotted, pos_text}
+use Rattle.law_cert.specs.Spelling.{dotted}
 use Rattle.law_cert.specs.Certificates.{IsIndex}
-use Rattle.law_cert.specs.Words.{Follows, IsBehind, IsDotted, IsFirst, Leads, NoFirst, One, PathSoFar, SoFar, is_undotted, row_text}
+use Rattle.law_cert.specs.Words.{Follows, IsBehind, IsDotted, IsFirst, NoFirst, One, PathSoFar, SoFar, is_undotted, row_text}
 use Rattle.law_cert.proofs.PartFacts.{cut_once, number_unspaced}
 
 pub behind_row : (words : List (List ℕ)) → IsBehind (spaced words)

@@ -1,5 +1,5 @@
 -- The lines of a certificate may come in their order: the draft that takes them one by one is the certificate.
-use Rattle.std.proofs.Common.{◌≡◌, ℕ, zero, suc, ◌+◌, ◌<◌, List, [], ◌∷◌, ◌++◌, Option, Some, None, refl, ap, sym, subst, ◌∙◌, arith, map, length}
+use Rattle.std.proofs.Common.{◌≡◌, ℕ, zero, suc, ◌+◌, List, [], ◌∷◌, ◌++◌, Option, Some, None, refl, ap, sym, ◌∙◌, arith, map}
 use Rattle.std.proofs.lemmas.List.{append_assoc, append-nil}
 use Rattle.std.specs.List.{AllByRecursion, flat_map}
 use Rattle.law_cert.specs.declared.cert.Entry.{Entry}
@@ -13,7 +13,6 @@ use Rattle.law_cert.specs.declared.line.CertLine.{CertLine}
 use Rattle.law_cert.specs.declared.line.CertLine.TheVariants as c
 use Rattle.law_cert.specs.declared.draft.Draft.{Draft}
 use Rattle.law_cert.specs.declared.draft.Draft.TheVariants as d
-use Rattle.law_cert.specs.declared.draft.Owed.{Owed}
 use Rattle.law_cert.specs.Spelling.{steps_of}
 use Rattle.law_cert.specs.Certificates.{ArePools, AreTrees, IsPool, IsTree}
 use Rattle.law_cert.specs.Drafts.{bare, behind_trees, entry_read, owes, planted, pool_read, read_of, tree_read, with_line}

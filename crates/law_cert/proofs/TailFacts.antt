@@ -1,13 +1,12 @@
 -- Lines that are none: what stands behind a key, part by part.
-use Rattle.std.proofs.Common.{◌≡◌, ℕ, ◌<◌, ◌≤◌, ◌^◌, ◌+◌, Bool, true, false, ◌==◌, List, [], ◌∷◌, ◌++◌, Option, Some, None, Result, Ok, Err, IfOk, refl, ap, sym, subst, ◌∙◌, arith, map, decimal, length, codes}
+use Rattle.std.proofs.Common.{◌≡◌, ℕ, ◌<◌, ◌≤◌, ◌^◌, Bool, true, false, ◌==◌, List, [], ◌∷◌, ◌++◌, Option, Some, None, Result, Ok, Err, IfOk, refl, ap, sym, ◌∙◌, arith, map, decimal, length, codes}
 use Rattle.std.proofs.lemmas.Fmt.{decimal_injective}
-use Rattle.std.proofs.lemmas.List.{append_assoc, append-nil}
+use Rattle.std.proofs.lemmas.List.{append-nil}
 use Rattle.std.proofs.lemmas.Slice.Eq.{bytes_eq-Decides}
 use Rattle.std.specs.Str.{bytes_eq}
 use Rattle.std.specs.List.{AllByRecursion}
 use Rattle.law_read.specs.declared.raw.RawTerm.{RawTerm}
-use Rattle.law_read.specs.declared.want.Bounds.TheVariants.{Kept}
-use Rattle.law_read.specs.Lines.{IsName, IsNumber}
+use Rattle.law_read.specs.Lines.{IsNumber}
 use Rattle.law_read.specs.Segments.{IsValuesLine}
 use Rattle.law_read.specs.Spelling.{spaced}
 use Rattle.law_read.proofs.OneTerm.{after}
@@ -22,11 +21,11 @@ use Rattle.law_cert.specs.declared.line.CertLine.TheVariants as c
 use Rattle.law_cert.specs.declared.line.Key.{Key}
 use Rattle.law_cert.specs.declared.line.Key.TheVariants as k
 use Rattle.law_cert.specs.Spelling.{bind_text, dir_text, equation_words, mark_text, pos_text}
-use Rattle.law_cert.specs.Certificates.{IsBind, IsEarned, IsIndex, IsWritten}
-use Rattle.law_cert.specs.Words.{AreSides, Exact, IsBehind, IsCut, IsFirst, IsMove, NoFirst, is_unspaced, move_text, row_text, sides_text}
+use Rattle.law_cert.specs.Certificates.{IsBind, IsEarned, IsIndex}
+use Rattle.law_cert.specs.Words.{AreSides, IsBehind, IsCut, IsFirst, IsMove, NoFirst, is_unspaced, move_text, row_text, sides_text}
 use Rattle.law_cert.specs.CertLines.{IsCertLine, LineRead, TailRead, all_keys, chosen_key, key_in, key_of, key_text, line_key, line_text, tail_text}
 use Rattle.law_cert.proofs.PartFacts.{cut_once, dir_unspaced, mark_unspaced, number_unspaced, pos_unspaced}
-use Rattle.law_cert.proofs.RowFacts.{behind_row, one_number}
+use Rattle.law_cert.proofs.RowFacts.{behind_row}
 
 one_behind : (xs ys : List ℕ) → 32 ∷ xs ≡ 32 ∷ ys → xs ≡ ys
 one_behind xs ys e = cc

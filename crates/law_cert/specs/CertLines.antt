@@ -1,5 +1,5 @@
 -- The lines of a certificate behind its signature, each by itself.
-use Rattle.std.specs.Prelude.{◌≡◌, ℕ, Bool, true, false, List, [], ◌∷◌, ◌++◌, map, Option, Some, None, codes, decimal}
+use Rattle.std.specs.Prelude.{◌≡◌, ℕ, Bool, true, false, List, [], ◌∷◌, map, Option, Some, None, codes, decimal}
 use Rattle.std.specs.Str.{bytes_eq}
 use Rattle.law_read.specs.declared.want.Bounds.TheVariants.{Kept}
 use Rattle.law_read.specs.declared.raw.RawLine.TheVariants as r

@@ -1,10 +1,7 @@
 -- What the reader of a certificate has, and what it says.
-use Rattle.std.specs.Prelude.{◌≡◌, ℕ, ◌+◌, ◌^◌, min, Bool, true, false, List, [], ◌∷◌, ◌++◌, map, length, Option, Some, None, codes}
-use Rattle.law_read.specs.declared.raw.RawLine.{RawLine}
-use Rattle.law_read.specs.Progress.{Progress}
+use Rattle.std.specs.Prelude.{◌≡◌, ℕ, Bool, true, false, List, [], ◌∷◌, ◌++◌, map, Option, Some, None, codes}
 use Rattle.law_read.specs.Signature.{IsRawSig}
 use Rattle.law_read.specs.Spelling.{line_spelling, text_of}
-use Rattle.law_read.specs.Texts.{next_number}
 use Rattle.law_cert.specs.declared.cert.Cert.{Cert}
 use Rattle.law_cert.specs.declared.draft.Draft.{Draft}
 use Rattle.law_cert.specs.declared.phase.Phase.{Phase}
