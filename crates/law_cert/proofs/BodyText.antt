@@ -26,7 +26,7 @@ use Rattle.law_cert.specs.Drafts.{IsDraft, bare, entry_read, pool_read, tree_rea
 use Rattle.law_cert.specs.Readers.{Heard, IsFed, IsPhase, IsReadAs, IsWhole, body_lines, head_text, phase_lines, phase_refused, phase_starved}
 use Rattle.law_cert.specs.Finishes.{IsFinished}
 
-texts_append : (xs ys : List CertLine) → map line_text (xs ++ ys) ≡ map line_text xs ++ map line_text ys
+pub texts_append : (xs ys : List CertLine) → map line_text (xs ++ ys) ≡ map line_text xs ++ map line_text ys
 texts_append [] ys = refl
 texts_append (x ∷ xs) ys = ap (λ l. line_text x ∷ l) (texts_append xs ys)
 
@@ -91,7 +91,7 @@ finished sig pools entries trees s h f g = record {
 pub finished_by : (sig : List RawLine) (draft : Draft) (pools : List (List RawValues)) (entries : List Entry) (trees : List SortTree) → draft ≡ d.Over pools entries trees → IsPhase (p.Body sig draft)
     → IsFinished (p.Body sig draft) (cert_of sig pools entries trees)
 finished_by sig draft pools entries trees e h =
-    let k = subst IsDraft e h.1 in subst (λ x. IsFinished (p.Body sig x) (cert_of sig pools entries trees)) (sym e) (finished sig pools entries trees h.0 k.0 k.1 k.2)
+    let k = subst IsDraft e h.1.is in subst (λ x. IsFinished (p.Body sig x) (cert_of sig pools entries trees)) (sym e) (finished sig pools entries trees h.0 k.0 k.1 k.2)
 
 abbrev heard_of : Phase → List ℕ → Heard
 heard_of phase unfinished = record { lines = phase_lines phase; unfinished = unfinished; refused = phase_refused phase; starved = phase_starved phase }

@@ -30,7 +30,7 @@ pub map_more : (A : Type 0) (f : A → CertLine) (xs : List A) (x : A) → map f
 map_more A f [] x = refl
 map_more A f (y ∷ xs) x = ap (λ l. f y ∷ l) (map_more A f xs x)
 
-reads_to : (x draft : Draft) (lines : List CertLine) → Some x ≡ Some draft → read_of x ≡ lines → read_of draft ≡ lines
+pub reads_to : (x draft : Draft) (lines : List CertLine) → Some x ≡ Some draft → read_of x ≡ lines → read_of draft ≡ lines
 reads_to x draft lines e h = ap read_of (sym same) ∙ h
   where
     same : x ≡ draft
@@ -177,7 +177,7 @@ grows (d.Trees pools entries trees tree owed) draft line is h = grown_grows pool
 grows (d.Over pools entries trees) draft line is h = absurd cc
 
 -- It stays a draft.
-drafts_to : (x draft : Draft) → Some x ≡ Some draft → IsDraft x → IsDraft draft
+pub drafts_to : (x draft : Draft) → Some x ≡ Some draft → IsDraft x → IsDraft draft
 drafts_to x draft e h = subst IsDraft same h
   where
     same : x ≡ draft

@@ -7,3 +7,5 @@ pub mod BodyText
 pub mod OneCertLine
 pub mod RunFacts
 pub mod OneCert
+pub mod Completions
+pub mod Stuck

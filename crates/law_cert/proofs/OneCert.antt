@@ -48,7 +48,7 @@ use Rattle.law_cert.proofs.RunFacts.{one_body}
 abbrev IsPrinted : List ℕ → Type 0
 IsPrinted bytes = list_all is_printed bytes ≡ true
 
-all_join : (A : Type 0) (P : A → Type 0) (xs ys : List A) → AllByRecursion P xs → AllByRecursion P ys → AllByRecursion P (xs ++ ys)
+pub all_join : (A : Type 0) (P : A → Type 0) (xs ys : List A) → AllByRecursion P xs → AllByRecursion P ys → AllByRecursion P (xs ++ ys)
 all_join A P [] ys h g = g
 all_join A P (x ∷ xs) ys h g = (h.0, all_join A P xs ys h.1 g)
 
@@ -147,13 +147,13 @@ one_text (x ∷ xs) (y ∷ ys) h g same =
     ap (λ z. z ∷ xs) q.0 ∙ ap (λ zs. y ∷ zs) (one_text xs ys h.1 g.1 q.1)
 
 -- Nothing of a signature stands behind its `end`.
-over : (stage : Stage) (k : Key) → stage.last ≡ Some key.End → allows stage k ≡ true → ⊥
+pub over : (stage : Stage) (k : Key) → stage.last ≡ Some key.End → allows stage k ≡ true → ⊥
 over stage k last may = by stage.last last may
   where
     by : (l : Option Key) → l ≡ Some key.End → allows (record { version = stage.version; given = stage.given; last = l }) k ≡ true → ⊥
     by l h g = let f = subst (λ o. allows (record { version = stage.version; given = stage.given; last = o }) k ≡ true) h g in absurd (cc)
 
-one_front : (stage : Stage) (xs ys : List RawLine) (us vs : List (List ℕ)) → IsWholeFrom stage xs → IsWholeFrom stage ys → map line_spelling xs ++ us ≡ map line_spelling ys ++ vs → (xs ≡ ys) × (us ≡ vs)
+pub one_front : (stage : Stage) (xs ys : List RawLine) (us vs : List (List ℕ)) → IsWholeFrom stage xs → IsWholeFrom stage ys → map line_spelling xs ++ us ≡ map line_spelling ys ++ vs → (xs ≡ ys) × (us ≡ vs)
 one_front stage [] [] us vs h g same = (refl, same)
 one_front stage [] (y ∷ ys) us vs h g same = absurd (over stage (line_key y) h.1 g.0.0)
 one_front stage (x ∷ xs) [] us vs h g same = absurd (over stage (line_key x) g.1 h.0.0)
@@ -191,17 +191,17 @@ entry_valid (e.Moved term target steps) h = (((h.0, h.1, tt), refl), steps_valid
 tree_valid : (tree : SortTree) → IsTree tree → AllByRecursion IsCertLine (tree_read tree)
 tree_valid tree h = (h.sort, all_map TreeLine IsNode c.Node (λ x g. g) tree.lines h.each)
 
-body_valid : (cert : Cert) → IsCertText cert → AllByRecursion IsCertLine (read_of (d.Over cert.pools cert.entries cert.trees))
+pub body_valid : (cert : Cert) → IsCertText cert → AllByRecursion IsCertLine (read_of (d.Over cert.pools cert.entries cert.trees))
 body_valid cert h =
     all_join CertLine IsCertLine (flat_map pool_read cert.pools) (flat_map entry_read cert.entries ++ (flat_map tree_read cert.trees ++ c.End ∷ [])) (all_lines (List RawValues) IsPool pool_read pool_valid cert.pools h.pools.each)
     (all_join CertLine IsCertLine (flat_map entry_read cert.entries) (flat_map tree_read cert.trees ++ c.End ∷ []) (all_lines Entry IsEntry entry_read entry_valid cert.entries h.entries)
     (all_join CertLine IsCertLine (flat_map tree_read cert.trees) (c.End ∷ []) (all_lines SortTree IsTree tree_read tree_valid cert.trees h.trees) (tt, tt)))
 
 -- the lines of a certificate
-abbrev all_of : Cert → List (List ℕ)
+abbrev pub all_of : Cert → List (List ℕ)
 all_of cert = head_text ∷ (map line_spelling cert.sig ++ body_lines (d.Over cert.pools cert.entries cert.trees))
 
-lines_are : (cert : Cert) → cert_lines cert ≡ all_of cert
+pub lines_are : (cert : Cert) → cert_lines cert ≡ all_of cert
 lines_are cert = ap (λ l. head_text ∷ (map line_spelling cert.sig ++ l)) (sym (body_text cert.pools cert.entries cert.trees))
 
 sig_unbroken : (sig : List RawLine) → AllByRecursion (IsLine Kept) sig → AllByRecursion IsUnbroken (map line_spelling sig)
@@ -212,7 +212,7 @@ body_unbroken : (lines : List CertLine) → AllByRecursion IsCertLine lines → 
 body_unbroken [] h = tt
 body_unbroken (line ∷ lines) h = (line_unbroken line h.0, body_unbroken lines h.1)
 
-all_unbroken : (cert : Cert) → IsCertText cert → AllByRecursion IsUnbroken (all_of cert)
+pub all_unbroken : (cert : Cert) → IsCertText cert → AllByRecursion IsUnbroken (all_of cert)
 all_unbroken cert h = (
   refl,
   all_join (List ℕ) IsUnbroken (map line_spelling cert.sig) (body_lines (d.Over cert.pools cert.entries cert.trees)) (sig_unbroken cert.sig h.sig.each)

@@ -15,16 +15,7 @@ use Rattle.law_cert.specs.declared.draft.Draft.{Draft}
 use Rattle.law_cert.specs.declared.draft.Draft.TheVariants as d
 use Rattle.law_cert.specs.Spelling.{steps_of}
 use Rattle.law_cert.specs.Certificates.{ArePools, AreTrees, IsPool, IsTree}
-use Rattle.law_cert.specs.Drafts.{bare, behind_trees, entry_read, owes, planted, pool_read, read_of, tree_read, with_line}
-
--- a line after the other
-abbrev pub with_found : Option Draft → CertLine → Option Draft
-with_found None line = None
-with_found (Some draft) line = with_line draft line
-
-abbrev pub runs : Option Draft → List CertLine → Option Draft
-runs found [] = found
-runs found (line ∷ lines) = runs (with_found found line) lines
+use Rattle.law_cert.specs.Drafts.{bare, behind_trees, entry_read, owes, planted, pool_read, read_of, runs, tree_read, with_found, with_line}
 
 pub runs_none : (lines : List CertLine) → runs None lines ≡ None
 runs_none [] = refl
@@ -38,13 +29,13 @@ more_assoc : (A : Type 0) (xs : List A) (x : A) (ys : List A) → (xs ++ x ∷ [
 more_assoc A xs x ys = append_assoc xs (x ∷ []) ys
 
 -- trees
-abbrev grown_by : SortTree → List TreeLine → SortTree
+abbrev pub grown_by : SortTree → List TreeLine → SortTree
 grown_by tree nodes = record { sort = tree.sort; lines = tree.lines ++ nodes }
 
-abbrev in_tree : List (List RawValues) → List Entry → List SortTree → SortTree → ℕ → ℕ → Option Draft
+abbrev pub in_tree : List (List RawValues) → List Entry → List SortTree → SortTree → ℕ → ℕ → Option Draft
 in_tree pools entries trees tree sorts terms = Some (d.Trees pools entries trees tree (owes sorts terms))
 
-nodes_run : (pools : List (List RawValues)) (entries : List Entry) (trees : List SortTree) (nodes : List TreeLine) (tree : SortTree) (sorts terms : ℕ) → AreTrees sorts terms nodes
+pub nodes_run : (pools : List (List RawValues)) (entries : List Entry) (trees : List SortTree) (nodes : List TreeLine) (tree : SortTree) (sorts terms : ℕ) → AreTrees sorts terms nodes
     → runs (in_tree pools entries trees tree sorts terms) (map c.Node nodes) ≡ in_tree pools entries trees (grown_by tree nodes) 0 0
 nodes_run pools entries trees [] tree zero zero h = ap (λ l. in_tree pools entries trees (record { sort = tree.sort; lines = l }) 0 0) (sym (append-nil tree.lines))
 nodes_run pools entries trees [] tree (suc sorts) zero h = absurd h

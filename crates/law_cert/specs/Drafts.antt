@@ -16,6 +16,7 @@ use Rattle.law_cert.specs.declared.draft.Draft.{Draft}
 use Rattle.law_cert.specs.declared.draft.Draft.TheVariants as d
 use Rattle.law_cert.specs.declared.draft.Owed.{Owed}
 use Rattle.law_cert.specs.Spelling.{steps_of}
+use Rattle.law_cert.specs.CertLines.{IsCertLine}
 use Rattle.law_cert.specs.Certificates.{ArePools, AreTrees, IsEntry, IsNode, IsPool, IsTree, IsValues}
 
 -- the lines of each part
@@ -119,6 +120,15 @@ with_line (d.Entries pools entries entry) line = entered pools entries entry lin
 with_line (d.Trees pools entries trees tree owed) line = grown pools entries trees tree owed line
 with_line (d.Over pools entries trees) line = None
 
+-- a line after the other
+abbrev pub with_found : Option Draft → CertLine → Option Draft
+with_found None line = None
+with_found (Some draft) line = with_line draft line
+
+abbrev pub runs : Option Draft → List CertLine → Option Draft
+runs found [] = found
+runs found (line ∷ lines) = runs (with_found found line) lines
+
 -- A tree that was read so far: whatever pays what is owed makes it one. A line owes less than 2^63 more.
 pub record IsGrowing (tree : SortTree) (owed : Owed) : Type 0 where
   pub sort : IsName Kept tree.sort
@@ -132,6 +142,12 @@ IsDraft (d.Pools pools pool) = AllByRecursion IsPool pools × AllByRecursion IsV
 IsDraft (d.Entries pools entries entry) = ArePools pools × AllByRecursion IsEntry entries × IsEntry entry
 IsDraft (d.Trees pools entries trees tree owed) = ArePools pools × AllByRecursion IsEntry entries × AllByRecursion IsTree trees × IsGrowing tree owed
 IsDraft (d.Over pools entries trees) = ArePools pools × AllByRecursion IsEntry entries × AllByRecursion IsTree trees
+
+-- What was read is a draft, and its lines, each spelled by the grammar, lead to it.
+pub record IsReached (draft : Draft) : Type 0 where
+  pub is : IsDraft draft
+  pub each : AllByRecursion IsCertLine (read_of draft)
+  pub steps : runs (Some d.Start) (read_of draft) ≡ Some draft
 
 -- the draft with one more line
 abbrev pub IsDraftWith : Draft → CertLine → Option Draft → Type 0

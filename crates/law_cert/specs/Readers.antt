@@ -1,6 +1,12 @@
 -- What the reader of a certificate has, and what it says.
 use Rattle.std.specs.Prelude.{◌≡◌, ℕ, Bool, true, false, List, [], ◌∷◌, ◌++◌, map, Option, Some, None, codes}
+use Rattle.std.specs.List.{AllByRecursion}
+use Rattle.law_read.specs.declared.want.Bounds.TheVariants.{Kept}
+use Rattle.law_read.specs.Faults.{is_closed_by}
+use Rattle.law_read.specs.Lines.{IsLine}
+use Rattle.law_read.specs.Progress.{Progress}
 use Rattle.law_read.specs.Signature.{IsRawSig}
+use Rattle.law_read.specs.Stages.{InOrder, stage_behind, start}
 use Rattle.law_read.specs.Spelling.{line_spelling, text_of}
 use Rattle.law_cert.specs.declared.cert.Cert.{Cert}
 use Rattle.law_cert.specs.declared.draft.Draft.{Draft}
@@ -11,7 +17,8 @@ use Rattle.law_cert.specs.declared.error.CertErr.TheVariants as error
 use Rattle.law_cert.specs.Spelling.{cert_lines, cert_spelling}
 use Rattle.law_cert.specs.Certificates.{IsCertText}
 use Rattle.law_cert.specs.CertLines.{line_text}
-use Rattle.law_cert.specs.Drafts.{IsDraft, read_of}
+use Rattle.law_cert.specs.Drafts.{IsReached, read_of}
+use Rattle.law_cert.specs.Readings.{HasReading}
 
 abbrev pub head_text : List ℕ
 head_text = codes "certificate 1"
@@ -35,17 +42,24 @@ abbrev pub phase_starved : Phase → Bool
 phase_starved p.Starved = true
 phase_starved phase = false
 
+-- The lines of a signature that isn't over.
+pub record IsSigOpen (reader : Progress) : Type 0 where
+  pub going : reader.refused ≡ None
+  pub order : InOrder start reader.lines
+  pub each : AllByRecursion (IsLine Kept) reader.lines
+  pub unclosed : is_closed_by (stage_behind start reader.lines).last ≡ false
+
 abbrev pub IsPhase : Phase → Type 0
-IsPhase (p.Sig reader) = reader.refused ≡ None
-IsPhase (p.Body sig draft) = IsRawSig sig × IsDraft draft
+IsPhase (p.Sig reader) = IsSigOpen reader
+IsPhase (p.Body sig draft) = IsRawSig sig × IsReached draft
 IsPhase phase = Unit {0}
 
 abbrev pub IsGoing : Phase → Type 0
 IsGoing phase = (phase_refused phase ≡ None) × (phase_starved phase ≡ false)
 
--- the phase with one more line
+-- The phase with one more line, or no certificate has the lines with it.
 abbrev pub IsPhaseWith : Phase → List ℕ → Option Phase → Type 0
-IsPhaseWith before line None = Unit {0}
+IsPhaseWith before line None = IsGoing before → HasReading (phase_lines before ++ line ∷ []) → ⊥
 IsPhaseWith before line (Some phase) = IsPhase phase × IsGoing phase × (phase_lines phase ≡ phase_lines before ++ line ∷ [])
 
 -- The lines read, the unfinished one, the number of a line that was refused, and whether memory was.

@@ -1,4 +1,4 @@
-ghost use Rattle.std.specs.Prelude.{◌≡◌, None, IfOk, MatchOption};
+ghost use Rattle.std.specs.Prelude.{IfOk};
 ghost use Rattle.law_read.specs.Signature.{IsRawSig};
 ghost use Rattle.law_cert.specs.declared.phase.Phase.TheVariants as p;
 ghost use Rattle.law_cert.specs.Drafts.{IsDraft};
@@ -84,7 +84,7 @@ fn headed(alloc: Global, line: &[u8]) -> Option<Phase>
 }
 
 fn signed(mut reader: SigLines, line: &[u8]) -> Result<Option<Phase>, NoMemory>
-    requires { reader.refused ≡ None }
+    requires { IsPhase (p.Sig reader) }
     ensures { IfOk result (IsPhaseWith (p.Sig reader) line.now) }
 {
     match reader.add(line) {
