@@ -93,7 +93,7 @@ pub finished_by : (sig : List RawLine) (draft : Draft) (pools : List (List RawVa
 finished_by sig draft pools entries trees e h =
     let k = subst IsDraft e h.1.is in subst (λ x. IsFinished (p.Body sig x) (cert_of sig pools entries trees)) (sym e) (finished sig pools entries trees h.0 k.0 k.1 k.2)
 
-abbrev heard_of : Phase → List ℕ → Heard
+abbrev pub heard_of : Phase → List ℕ → Heard
 heard_of phase unfinished = record { lines = phase_lines phase; unfinished = unfinished; refused = phase_refused phase; starved = phase_starved phase }
 
 pub finish_ok : (r : Result Cert CertErr) (phase : Phase) (unfinished : List ℕ) → length unfinished ≡ 0 → IfOk r (IsFinished phase) → IfOk r (IsWhole (heard_of phase unfinished))

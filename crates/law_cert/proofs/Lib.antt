@@ -9,3 +9,5 @@ pub mod RunFacts
 pub mod OneCert
 pub mod Completions
 pub mod Stuck
+pub mod Ends
+pub mod Refusals

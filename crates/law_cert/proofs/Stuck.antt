@@ -31,10 +31,10 @@ use Rattle.law_cert.proofs.OneCertLine.{one_cert_line, one_cert_lines}
 use Rattle.law_cert.proofs.RowFacts.{all_more}
 use Rattle.law_cert.proofs.RunFacts.{cert_runs, runs_append, runs_none}
 
-same_behind : {x y : List ℕ} {xs ys : List (List ℕ)} → x ∷ xs ≡ y ∷ ys → xs ≡ ys
+pub same_behind : {x y : List ℕ} {xs ys : List (List ℕ)} → x ∷ xs ≡ y ∷ ys → xs ≡ ys
 same_behind e = cc
 
-same_head : {x y : List ℕ} {xs ys : List (List ℕ)} → x ∷ xs ≡ y ∷ ys → x ≡ y
+pub same_head : {x y : List ℕ} {xs ys : List (List ℕ)} → x ∷ xs ≡ y ∷ ys → x ≡ y
 same_head e = cc
 
 -- The lines of a signature that isn't over are followed in it by the line behind them.
@@ -42,7 +42,7 @@ record Further (xs ys : List RawLine) (line : List ℕ) : Type 0 where
   more : List (List ℕ)
   same : map line_spelling ys ≡ map line_spelling xs ++ line ∷ more
 
-not_over : (stage : Stage) → is_closed_by stage.last ≡ false → stage.last ≡ Some key.End → ⊥
+pub not_over : (stage : Stage) → is_closed_by stage.last ≡ false → stage.last ≡ Some key.End → ⊥
 not_over stage n h = let e : true ≡ false = sym (ap is_closed_by h) ∙ n in absurd cc
 
 further : (stage : Stage) (xs ys : List RawLine) (line : List ℕ) (us vs : List (List ℕ)) → InOrder stage xs → AllByRecursion (IsLine Kept) xs → is_closed_by (stage_behind stage xs).last ≡ false → IsWholeFrom stage ys

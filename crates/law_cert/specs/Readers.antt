@@ -1,5 +1,5 @@
 -- What the reader of a certificate has, and what it says.
-use Rattle.std.specs.Prelude.{◌≡◌, ℕ, Bool, true, false, List, [], ◌∷◌, ◌++◌, map, Option, Some, None, codes}
+use Rattle.std.specs.Prelude.{◌≡◌, ℕ, ◌-◌, ◌^◌, min, length, ◌⊎◌, Bool, true, false, List, [], ◌∷◌, ◌++◌, map, Option, Some, None, codes}
 use Rattle.std.specs.List.{AllByRecursion}
 use Rattle.law_read.specs.declared.want.Bounds.TheVariants.{Kept}
 use Rattle.law_read.specs.Faults.{is_closed_by}
@@ -8,6 +8,7 @@ use Rattle.law_read.specs.Progress.{Progress}
 use Rattle.law_read.specs.Signature.{IsRawSig}
 use Rattle.law_read.specs.Stages.{InOrder, stage_behind, start}
 use Rattle.law_read.specs.Spelling.{line_spelling, text_of}
+use Rattle.law_read.specs.Texts.{IsUnbroken, next_number}
 use Rattle.law_cert.specs.declared.cert.Cert.{Cert}
 use Rattle.law_cert.specs.declared.draft.Draft.{Draft}
 use Rattle.law_cert.specs.declared.phase.Phase.{Phase}
@@ -18,7 +19,7 @@ use Rattle.law_cert.specs.Spelling.{cert_lines, cert_spelling}
 use Rattle.law_cert.specs.Certificates.{IsCertText}
 use Rattle.law_cert.specs.CertLines.{line_text}
 use Rattle.law_cert.specs.Drafts.{IsReached, read_of}
-use Rattle.law_cert.specs.Readings.{HasReading}
+use Rattle.law_cert.specs.Readings.{FaultAt, FaultyLine, FirstFault, HasReading, Unfinished}
 
 abbrev pub head_text : List ℕ
 head_text = codes "certificate 1"
@@ -84,8 +85,44 @@ pub record IsFed (old new : Heard) (piece : List ℕ) : Type 0 where
 
 -- the line that the reader names is the one that it keeps
 abbrev pub Stops : Heard → CertErr → Type 0
-Stops heard (error.Form number) = heard.refused ≡ Some number
-Stops heard error.NoMemory = heard.starved ≡ true
+Stops heard (error.Form number) = (heard.refused ≡ Some number) × (heard.starved ≡ false)
+Stops heard error.NoMemory = (heard.starved ≡ true) × (heard.refused ≡ None)
+
+abbrev pub Faults : List ℕ → CertErr → Type 0
+Faults text (error.Form number) = FaultAt text number FaultyLine
+Faults text error.NoMemory = Unit {0}
+
+-- a line of the text, or memory, is refused now
+pub record StopsNow (old : Heard) (piece : List ℕ) (why : CertErr) : Type 0 where
+  pub before : IsOpen old
+  pub fault : Faults (heard_text old ++ piece) why
+
+-- It is refused now, or was earlier, and the reader keeps that.
+pub record IsStopped (old new : Heard) (piece : List ℕ) (why : CertErr) : Type 0 where
+  pub kept : Stops new why
+  pub cause : Stops old why ⊎ StopsNow old piece why
+
+-- The unfinished line is over, and has no reading.
+pub record IsFaulty (old : Heard) (number : ℕ) : Type 0 where
+  pub whole : IsUnbroken old.unfinished
+  pub reads : HasReading old.lines
+  pub next : number ≡ next_number old.lines
+  pub stuck : HasReading (old.lines ++ old.unfinished ∷ []) → ⊥
+
+abbrev pub IsClosedTo : Heard → Option ℕ → Type 0
+IsClosedTo old None = Unit {0}
+IsClosedTo old (Some number) = IsFaulty old number
+
+-- how the reader's fields hang together
+pub record IsReader (phase : Phase) (count : ℕ) (unfinished : List ℕ) : Type 0 where
+  pub is : IsPhase phase
+  pub counted : IsGoing phase → count ≡ min (length (phase_lines phase)) (2 ^ 64 - 1)
+  pub whole : IsGoing phase → IsUnbroken unfinished
+
+-- the text ends too early, or the reader had stopped
+abbrev pub NotWhole : Heard → CertErr → Type 0
+NotWhole heard (error.Form number) = Stops heard (error.Form number) ⊎ (IsOpen heard × FaultAt (heard_text heard) number Unfinished)
+NotWhole heard error.NoMemory = Stops heard error.NoMemory
 
 -- The certificate of the lines.
 pub record IsWhole (heard : Heard) (cert : Cert) : Type 0 where
@@ -98,3 +135,8 @@ pub record IsWhole (heard : Heard) (cert : Cert) : Type 0 where
 pub record IsReadAs (text : List ℕ) (cert : Cert) : Type 0 where
   pub is : IsCertText cert
   pub spelled : cert_spelling cert ≡ text
+
+-- The first line without a reading has this number.
+abbrev pub RefusedBy : List ℕ → CertErr → Type 0
+RefusedBy text (error.Form number) = FirstFault text number
+RefusedBy text error.NoMemory = Unit {0}

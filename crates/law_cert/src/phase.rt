@@ -1,9 +1,9 @@
-ghost use Rattle.std.specs.Prelude.{IfOk};
+ghost use Rattle.std.specs.Prelude.{IfOk, IfErr};
 ghost use Rattle.law_read.specs.Signature.{IsRawSig};
 ghost use Rattle.law_cert.specs.declared.phase.Phase.TheVariants as p;
 ghost use Rattle.law_cert.specs.Drafts.{IsDraft};
 ghost use Rattle.law_cert.specs.Readers.{IsPhase, IsPhaseWith};
-ghost use Rattle.law_cert.specs.Finishes.{IsFinished};
+ghost use Rattle.law_cert.specs.Finishes.{IsFinished, NotFinished};
 
 use crate::cert::Cert;
 use crate::draft::Draft;
@@ -42,7 +42,8 @@ impl Phase {
     /// The certificate, where the text is over; the line that is absent has this number.
     pub fn finish(self, line: u64) -> Result<Cert, CertErr>
         requires { IsPhase self }
-        ensures { IfOk result (IsFinished self) }
+        ensures ok { IfOk result (IsFinished self) }
+        ensures err { IfErr result (NotFinished self line) }
     {
         match self {
             Phase::Head => Err(CertErr::Form { line }),
@@ -56,7 +57,8 @@ impl Phase {
 
 fn whole(sig: RawSig, draft: Draft, line: u64) -> Result<Cert, CertErr>
     requires { IsPhase (p.Body sig draft) }
-    ensures { IfOk result (IsFinished (p.Body sig draft)) }
+    ensures ok { IfOk result (IsFinished (p.Body sig draft)) }
+    ensures err { IfErr result (NotFinished (p.Body sig draft) line) }
 {
     match draft {
         Draft::Over {

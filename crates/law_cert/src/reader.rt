@@ -1,5 +1,5 @@
 ghost use Rattle.std.specs.Prelude.{◌≡◌, [], ◌∷◌, None, false, IfOk, IfErr, MatchResult};
-ghost use Rattle.law_cert.specs.Readers.{IsFed, IsOpen, IsReadAs, IsWhole, Stops};
+ghost use Rattle.law_cert.specs.Readers.{IsClosedTo, IsFed, IsOpen, IsReadAs, IsStopped, IsWhole, NotWhole, RefusedBy, Stops};
 
 use crate::cert::Cert;
 use crate::draft::Draft;
@@ -21,13 +21,13 @@ pub struct CertReader {
 }
 
 impl Model for CertReader {
-    ghost use Rattle.law_cert.specs.Readers.{Heard, IsPhase, phase_lines, phase_refused, phase_starved};
+    ghost use Rattle.law_cert.specs.Readers.{Heard, IsReader, phase_lines, phase_refused, phase_starved};
 
     ghost Value = { Heard };
 
     ghost view = { λ reader. record { lines = phase_lines reader.phase; unfinished = reader.unfinished; refused = phase_refused reader.phase; starved = phase_starved reader.phase } };
 
-    ghost invariant = { λ reader. IsPhase reader.phase };
+    ghost invariant = { λ reader. IsReader reader.phase reader.count reader.unfinished };
 }
 
 impl CertReader {
@@ -47,7 +47,7 @@ impl CertReader {
 
     /// Reads more bytes. Once a line or memory is refused, each later call answers the same.
     pub fn feed(&mut self, piece: &[u8]) -> Result<(), CertErr>
-        ensures ok { MatchResult result (λ _. IsFed self.old self.new piece.now) (Stops self.new) }
+        ensures ok { MatchResult result (λ _. IsFed self.old self.new piece.now) (IsStopped self.old self.new piece.now) }
     {
         self.answer()?;
         for byte in piece {
@@ -57,7 +57,7 @@ impl CertReader {
     }
 
     fn take(&mut self, byte: u8) -> Result<(), CertErr>
-        ensures { MatchResult result (λ _. IsFed self.old self.new (byte ∷ [])) (Stops self.new) }
+        ensures { MatchResult result (λ _. IsFed self.old self.new (byte ∷ [])) (IsStopped self.old self.new (byte ∷ [])) }
     {
         self.answer()?;
         if byte == b'\n' {
@@ -76,7 +76,8 @@ impl CertReader {
     /// The unfinished line is over.
     fn close(&mut self)
         requires { IsOpen self.old }
-        ensures { IsOpen self.new → IsFed self.old self.new (10 ∷ []) }
+        ensures fed { IsOpen self.new → IsFed self.old self.new (10 ∷ []) }
+        ensures refused { IsClosedTo self.old self.new.refused }
     {
         let phase = mem::replace(&mut self.phase, Phase::Starved);
         let line = mem::replace(&mut self.unfinished, Text::new(self.alloc));
@@ -102,6 +103,7 @@ impl CertReader {
     /// The certificate of the joined pieces.
     pub fn finish(self) -> Result<Cert, CertErr>
         ensures ok { IfOk result (IsWhole self) }
+        ensures err { IfErr result (NotWhole self) }
     {
         let line = self.count.saturating_add(1);
         if self.unfinished.len() == 0 {
@@ -118,6 +120,7 @@ impl CertReader {
 #[tactic(auto, using(crate::proofs::BodyText::reads))]
 pub fn read_cert(alloc: Global, text: &[u8]) -> Result<Cert, CertErr>
     ensures ok { IfOk result (IsReadAs text.now) }
+    ensures err { IfErr result (RefusedBy text.now) }
 {
     let mut reader = CertReader::new(alloc);
     reader.feed(text)?;
