@@ -11,3 +11,4 @@ pub mod Completions
 pub mod Stuck
 pub mod Ends
 pub mod Refusals
+pub mod NoneSpelled

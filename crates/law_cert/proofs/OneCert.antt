@@ -135,7 +135,7 @@ line_unbroken (c.Node node) h = node_unbroken node h
 line_unbroken c.End h = refl
 
 -- The lines of a text are told by it.
-text_first : (line : List ℕ) (lines : List (List ℕ)) → text_of (line ∷ lines) ≡ line ++ 10 ∷ text_of lines
+pub text_first : (line : List ℕ) (lines : List (List ℕ)) → text_of (line ∷ lines) ≡ line ++ 10 ∷ text_of lines
 text_first line lines = append_assoc line (10 ∷ []) (text_of lines)
 
 one_text : (xs ys : List (List ℕ)) → AllByRecursion IsUnbroken xs → AllByRecursion IsUnbroken ys → text_of xs ≡ text_of ys → xs ≡ ys

@@ -11,6 +11,7 @@ use Rattle.law_cert.specs.declared.error.CertErr.TheVariants as error
 use Rattle.law_cert.specs.declared.phase.Phase.{Phase}
 use Rattle.law_cert.specs.declared.phase.Phase.TheVariants as p
 use Rattle.law_cert.specs.Finishes.{NotFinished}
+use Rattle.law_cert.specs.Laws.{StaysStopped}
 use Rattle.law_cert.specs.Readers.{Heard, IsClosedTo, IsFaulty, IsFed, IsGoing, IsOpen, IsPhaseWith, IsReader, IsStopped, NotWhole, RefusedBy, Stops, StopsNow, heard_text, phase_lines, phase_refused}
 use Rattle.law_cert.specs.Readings.{AreAll, FaultAt, FaultyLine, HasReading, Unfinished}
 use Rattle.law_cert.proofs.BodyText.{heard_of}
@@ -161,3 +162,19 @@ finish_refused (Err (error.Form number)) old new text none nothing fed h = by h
     by : NotWhole new (error.Form number) → RefusedBy text (error.Form number)
     by (inl a) = let x = a.0 in let y = fed.after.allowed in absurd cc
     by (inr a) = inr (subst (λ t. FaultAt t number Unfinished) (fed.text ∙ no_text old text none nothing) a.1)
+
+-- A reader that has stopped answers the same.
+not_open : (old : Heard) (was : CertErr) → Stops old was → IsOpen old → ⊥
+not_open old (error.Form number) s o = let a = s.0 in let b = o.allowed in absurd cc
+not_open old error.NoMemory s o = let a = s.0 in let b = o.fed in absurd cc
+
+same_answer : (old : Heard) (was why : CertErr) (piece : List ℕ) → Stops old was → Stops old why ⊎ StopsNow old piece why → why ≡ was
+same_answer old was why piece s (inr x) = absurd (not_open old was s x.before)
+same_answer old (error.Form number) (error.Form other) piece s (inl x) = let e : Some other ≡ Some number = sym x.0 ∙ s.0 in let q : other ≡ number = cc in ap error.Form q
+same_answer old (error.Form number) error.NoMemory piece s (inl x) = let a = s.0 in let b = x.1 in absurd cc
+same_answer old error.NoMemory (error.Form other) piece s (inl x) = let a = s.1 in let b = x.0 in absurd cc
+same_answer old error.NoMemory error.NoMemory piece s (inl x) = refl
+
+pub stays : StaysStopped
+stays old new piece was s (Ok u) h = absurd (not_open old was s h.before)
+stays old new piece was s (Err why) h = let e = same_answer old was why piece s h.cause in (ap Err e, subst (Stops new) e h.kept)
