@@ -139,5 +139,5 @@ bodied_more sig before next line bytes h is text w more = (
   (h.0, reached_more before next line h.1 is w more.0 more.1),
   (refl, refl),
   ap (λ l. head_text ∷ (map line_spelling sig ++ l)) (ap (map line_text) more.1 ∙ texts_append (read_of before) (line ∷ []) ∙ ap (λ l. body_lines before ++ l ∷ []) text)
-  ∙ ap (λ l. head_text ∷ l) (sym (append_assoc (map line_spelling sig) (body_lines before) (bytes ∷ []))),
+      ∙ ap (λ l. head_text ∷ l) (sym (append_assoc (map line_spelling sig) (body_lines before) (bytes ∷ []))),
 )
