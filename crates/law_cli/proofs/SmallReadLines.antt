@@ -9,7 +9,7 @@ use Rattle.law_read.specs.declared.raw.RawTerm.{RawTerm}
 use Rattle.law_read.specs.declared.raw.RawLine.{RawLine}
 use Rattle.law_read.specs.declared.raw.RawLine.TheVariants as r
 use Rattle.law_read.specs.declared.shape.Shape.TheVariants as s
-use Rattle.law_read.specs.Terms.{the_bounds}
+use Rattle.law_read.specs.declared.want.Bounds.TheVariants.{Kept}
 use Rattle.law_read.specs.Lines.{IsLine, AreSorts, AreValues}
 use Rattle.law_read.specs.Order.{order, shape_of}
 use Rattle.law_read.specs.Grammar.{Spells}
@@ -31,7 +31,7 @@ onto front (Some lines) = Some (front ++ lines)
 
 -- What is read is a line that the grammar spells, of the kind's shape.
 abbrev Fits : Kind → RawLine → Type 0
-Fits kind line = (shape_of line ≡ shape_of_kind kind) × IsLine the_bounds line
+Fits kind line = (shape_of line ≡ shape_of_kind kind) × IsLine Kept line
 
 of_some : (P : RawLine → Type 0) (m l : RawLine) → P m → Some m ≡ Some l → P l
 of_some P m l p e = let same : m ≡ l = cc in subst P same p
@@ -143,7 +143,7 @@ all_found [] lines e = none_found lines e
 all_found (ws ∷ table) lines e =
     more_found ws table (line_at ws) (lines_of table) lines (λ l h. found_by (kind_at ws) ws _ l refl h) (all_found table) e
 
-each_found : (table : List (List (List ℕ))) (lines : List RawLine) → AreFound table lines → AllByRecursion (IsLine the_bounds) lines
+each_found : (table : List (List (List ℕ))) (lines : List RawLine) → AreFound table lines → AllByRecursion (IsLine Kept) lines
 each_found [] [] f = tt
 each_found [] (l ∷ ls) f = absurd f
 each_found (ws ∷ table) [] f = absurd f
@@ -202,7 +202,7 @@ all_append : (P : List ℕ → Type 0) (xs ys : List (List ℕ)) → AllByRecurs
 all_append P [] ys a b = b
 all_append P (x ∷ xs) ys a b = (a.0, all_append P xs ys a.1 b)
 
-reread_fun : (name result : List ℕ) (args : List (List ℕ)) → is_name name ≡ true → AreSorts the_bounds args → is_name result ≡ true → IsReread (r.FunLine name args result)
+reread_fun : (name result : List ℕ) (args : List (List ℕ)) → is_name name ≡ true → AreSorts Kept args → is_name result ≡ true → IsReread (r.FunLine name args result)
 reread_fun name result args h a i = record {
   kind = k.Fun;
   at = refl;
@@ -240,7 +240,7 @@ some_words : (ts : List RawTerm) → 0 < length ts → nat_lt 0 (length (map arg
 some_words [] h = absurd (omega arith)
 some_words (t ∷ ts) h = grind (arith, nat_tests)
 
-reread_values : (sort : List ℕ) (ts : List RawTerm) → AllByRecursion IsAtom ts → is_name sort ≡ true → 0 < length ts → AreValues the_bounds ts → IsReread (r.Values sort ts)
+reread_values : (sort : List ℕ) (ts : List RawTerm) → AllByRecursion IsAtom ts → is_name sort ≡ true → 0 < length ts → AreValues Kept ts → IsReread (r.Values sort ts)
 reread_values sort ts a h some i =
     let d = values_back ts a i in
     let ws = map arg_spelling ts in
@@ -256,7 +256,7 @@ reread_values sort ts a h some i =
       words = (refl, (name_above sort h, names_above ws d.0));
     }
 
-reread : (l : RawLine) → IsPlain l → IsLine the_bounds l → IsReread l
+reread : (l : RawLine) → IsPlain l → IsLine Kept l → IsReread l
 reread r.Head p i = record { kind = k.Head; at = refl; shape = refl; line = refl; words = (refl, (refl, tt)) }
 reread r.Head2 p i = absurd p
 reread r.Head3 p i = absurd p
@@ -282,7 +282,7 @@ reread r.Pool p i = record { kind = k.Pool; at = refl; shape = refl; line = refl
 reread (r.Values sort ts) p i = reread_values sort ts p i.0 i.1 i.2
 reread r.End p i = record { kind = k.End; at = refl; shape = refl; line = refl; words = (refl, tt) }
 
-all_reread : (lines : List RawLine) → ArePlain lines → AllByRecursion (IsLine the_bounds) lines → AllByRecursion IsReread lines
+all_reread : (lines : List RawLine) → ArePlain lines → AllByRecursion (IsLine Kept) lines → AllByRecursion IsReread lines
 all_reread [] p i = tt
 all_reread (l ∷ lines) p i = (reread l p.0 i.0, all_reread lines p.1 i.1)
 

@@ -15,7 +15,10 @@ use Rattle.law_read.specs.declared.raw.RawTerm.TheFolds.{fold-roll-RawTerm}
 use Rattle.law_read.specs.declared.raw.RawTerm.TheOpen.{RawTerm-F}
 use Rattle.law_read.specs.declared.raw.RawTerm.TheViews.{out-RawTerm, roll-RawTerm, out-roll-RawTerm, roll-out-RawTerm}
 use Rattle.law_read.specs.declared.raw.RawLine.TheVariants as r
-use Rattle.law_read.specs.Terms.{Place, IsTerm, the_bounds, node_fits, head_fits, largest, body, value}
+use Rattle.law_read.specs.declared.want.Bounds.TheVariants.{Kept}
+use Rattle.law_read.specs.declared.want.Place.{Place}
+use Rattle.law_read.specs.declared.want.Place.TheVariants.{Body, Value}
+use Rattle.law_read.specs.Terms.{IsTerm, node_fits, head_fits, largest}
 use Rattle.law_read.specs.Lines.{AreValues}
 use Rattle.law_read.specs.Spelling.{head_spelling, arg_spelling, arg_step, term_words}
 use Rattle.law_cli.specs.SmallReadPlain.{IsPlainHead, IsAtom}
@@ -64,17 +67,17 @@ number_small (w ∷ v ∷ ws) n e = absurd (cc)
 
 -- Terms without arguments.
 abbrev fits_at : Place → RawHead → Bool
-fits_at place head = head_fits the_bounds place head true
+fits_at place head = head_fits Kept place head true
 
-pub atom_is : (place : Place) (head : RawHead) → fits_at place head ≡ true → IsTerm the_bounds place (atom head)
+pub atom_is : (place : Place) (head : RawHead) → fits_at place head ≡ true → IsTerm Kept place (atom head)
 atom_is place head h = record {
-  nodes = fold-roll-RawTerm Bool (node_fits the_bounds place) (layer head) ∙ ap (λ b. b && true) h;
+  nodes = fold-roll-RawTerm Bool (node_fits Kept place) (layer head) ∙ ap (λ b. b && true) h;
   size = ap (λ n. nat_le n 4096) (fold-roll-RawTerm ℕ (λ term. 1 + sum term.args) (layer head));
   deep = ap (λ n. nat_le n 256) (fold-roll-RawTerm ℕ (λ term. 1 + largest term.args) (layer head));
 }
 
-atom_fits : (place : Place) (head : RawHead) → IsTerm the_bounds place (atom head) → fits_at place head ≡ true
-atom_fits place head h = (both (fits_at place head) true (sym (fold-roll-RawTerm Bool (node_fits the_bounds place) (layer head)) ∙ h.nodes)).0
+atom_fits : (place : Place) (head : RawHead) → IsTerm Kept place (atom head) → fits_at place head ≡ true
+atom_fits place head h = (both (fits_at place head) true (sym (fold-roll-RawTerm Bool (node_fits Kept place) (layer head)) ∙ h.nodes)).0
 
 alone_is : (head : RawHead) (args : List RawTerm) → args ≡ [] → roll-RawTerm (record { head = head; args = args }) ≡ atom head
 alone_is head args e = ap (λ xs. let l : RawTerm-F RawTerm = record { head = head; args = xs } in roll-RawTerm l) e
@@ -95,7 +98,7 @@ pub record IsWord (t : RawTerm) : Type 0 where
   pub above : IsAbove 32 word
   pub back : atom_of word ≡ Some t
 
-head_word : (head : RawHead) → IsPlainHead head → fits_at body head ≡ true → IsWord (atom head)
+head_word : (head : RawHead) → IsPlainHead head → fits_at Body head ≡ true → IsWord (atom head)
 head_word (Name name) p h = record {
   word = name;
   words = atom_words (Name name);
@@ -113,43 +116,43 @@ head_word (Param number) p h =
     }
 head_word (Field number) p h = absurd p
 
-pub body_word : (t : RawTerm) → IsAtom t → IsTerm the_bounds body t → IsWord t
+pub body_word : (t : RawTerm) → IsAtom t → IsTerm Kept Body t → IsWord t
 body_word t a i =
     let e = is_atom t a in
     let head = (out-RawTerm t).head in
-    subst IsWord (sym e) (head_word head a.head (atom_fits body head (subst (IsTerm the_bounds body) e i)))
+    subst IsWord (sym e) (head_word head a.head (atom_fits Body head (subst (IsTerm Kept Body) e i)))
 
 by_name : (b : Bool) (o : Option ℕ) (w : List ℕ) (t : RawTerm) → is_name w ≡ b → number_below (2 ^ 32) (drop 1 w) ≡ o
-    → cond b (Some (name_term w)) (option_map param_term o) ≡ Some t → IsTerm the_bounds body t
-by_name true o w t h k e = let same : name_term w ≡ t = cc in subst (IsTerm the_bounds body) same (atom_is body (Name w) h)
+    → cond b (Some (name_term w)) (option_map param_term o) ≡ Some t → IsTerm Kept Body t
+by_name true o w t h k e = let same : name_term w ≡ t = cc in subst (IsTerm Kept Body) same (atom_is Body (Name w) h)
 by_name false None w t h k e = absurd (cc)
 by_name false (Some n) w t h k e =
     let same : param_term n ≡ t = cc in
     let f = number_found (2 ^ 32) n (drop 1 w) (omega arith) k in
     let small : n < 2 ^ 32 = f.0 in
     let fits : nat_lt n (2 ^ 32) ≡ true = grind (arith, nat_tests) in
-    subst (IsTerm the_bounds body) same (atom_is body (Param n) fits)
+    subst (IsTerm Kept Body) same (atom_is Body (Param n) fits)
 
-pub atom_sound : (w : List ℕ) (t : RawTerm) → atom_of w ≡ Some t → IsTerm the_bounds body t
+pub atom_sound : (w : List ℕ) (t : RawTerm) → atom_of w ≡ Some t → IsTerm Kept Body t
 atom_sound w t = by_name (is_name w) (number_below (2 ^ 32) (drop 1 w)) w t refl refl
 
 -- Values, which are names.
 abbrev IsNameTerm : RawTerm → Type 0
 IsNameTerm t = (is_name (arg_spelling t) ≡ true) × (name_term (arg_spelling t) ≡ t)
 
-head_value : (head : RawHead) → IsPlainHead head → fits_at value head ≡ true → IsNameTerm (atom head)
+head_value : (head : RawHead) → IsPlainHead head → fits_at Value head ≡ true → IsNameTerm (atom head)
 head_value (Name name) p h = (ap is_name (atom_arg (Name name)) ∙ h, ap name_term (atom_arg (Name name)))
 head_value (Var sort index) p h = absurd p
 head_value (Param number) p h = absurd (cc)
 head_value (Field number) p h = absurd p
 
-value_word : (t : RawTerm) → IsAtom t → IsTerm the_bounds value t → IsNameTerm t
+value_word : (t : RawTerm) → IsAtom t → IsTerm Kept Value t → IsNameTerm t
 value_word t a i =
     let e = is_atom t a in
     let head = (out-RawTerm t).head in
-    subst IsNameTerm (sym e) (head_value head a.head (atom_fits value head (subst (IsTerm the_bounds value) e i)))
+    subst IsNameTerm (sym e) (head_value head a.head (atom_fits Value head (subst (IsTerm Kept Value) e i)))
 
-pub values_back : (ts : List RawTerm) → AllByRecursion IsAtom ts → AreValues the_bounds ts
+pub values_back : (ts : List RawTerm) → AllByRecursion IsAtom ts → AreValues Kept ts
     → (list_all is_name (map arg_spelling ts) ≡ true) × (map name_term (map arg_spelling ts) ≡ ts)
 values_back [] a i = (refl, refl)
 values_back (t ∷ ts) a i =
@@ -157,9 +160,9 @@ values_back (t ∷ ts) a i =
     let e = values_back ts a.1 i.1 in
     (ap (λ b. b && list_all is_name (map arg_spelling ts)) d.0 ∙ e.0, ap (λ x. x ∷ map name_term (map arg_spelling ts)) d.1 ∙ ap (λ xs. t ∷ xs) e.1)
 
-pub values_sound : (ws : List (List ℕ)) → list_all is_name ws ≡ true → AreValues the_bounds (map name_term ws)
+pub values_sound : (ws : List (List ℕ)) → list_all is_name ws ≡ true → AreValues Kept (map name_term ws)
 values_sound [] h = tt
-values_sound (w ∷ ws) h = let d = both (is_name w) (list_all is_name ws) h in (atom_is value (Name w) d.0, values_sound ws d.1)
+values_sound (w ∷ ws) h = let d = both (is_name w) (list_all is_name ws) h in (atom_is Value (Name w) d.0, values_sound ws d.1)
 
 -- The words of a function's line.
 pub fun_parts : (name sort : List ℕ) (words args : List (List ℕ)) → 2 ≤ length words → args ≡ take (length words - 2) words

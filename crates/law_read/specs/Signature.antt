@@ -2,7 +2,7 @@
 use Rattle.std.specs.Prelude.{List, map}
 use Rattle.std.specs.List.{AllByRecursion}
 use Rattle.law_read.specs.declared.raw.RawLine.{RawLine}
-use Rattle.law_read.specs.Terms.{the_bounds}
+use Rattle.law_read.specs.declared.want.Bounds.TheVariants.{Kept}
 use Rattle.law_read.specs.Lines.{IsLine}
 use Rattle.law_read.specs.Grammar.{Spells}
 use Rattle.law_read.specs.Order.{order, shape_of}
@@ -10,4 +10,4 @@ use Rattle.law_read.specs.Order.{order, shape_of}
 -- The lines stand in order, and the grammar spells each.
 pub record IsRawSig (lines : List RawLine) : Type 0 where
   pub order : Spells order (map shape_of lines)
-  pub each : AllByRecursion (IsLine the_bounds) lines
+  pub each : AllByRecursion (IsLine Kept) lines

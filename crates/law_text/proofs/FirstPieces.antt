@@ -1,10 +1,10 @@
 -- The first piece of some bytes.
-use Rattle.std.proofs.Common.{◌≡◌, ◌≢◌, ℕ, suc, zero, ◌+◌, ◌<◌, ◌==◌, Bool, true, false, List, [], ◌∷◌, ◌++◌, take, drop, length, refl, ap, sym, ◌∙◌, arith, eqb, cond, subst, ◌&&◌, get_or}
+use Rattle.std.proofs.Common.{◌≡◌, ◌≢◌, ℕ, suc, ◌+◌, ◌<◌, ◌==◌, Bool, true, false, List, [], ◌∷◌, ◌++◌, take, drop, length, refl, ap, sym, ◌∙◌, arith, cond, subst, ◌&&◌, get_or}
 use Rattle.std.specs.List.{prefix_len, list_all}
 use Rattle.std.proofs.lemmas.List.{take-append-drop}
 use Rattle.std.proofs.lemmas.Bool.Decides.{nat_tests}
 use Rattle.law_text.specs.Pieces.{Piece, pieces, is_plain, begun_by, lengthened, FirstPiece}
-use Rattle.law_text.specs.Pieces.Piece.{space, opening, closing, word}
+use Rattle.law_text.specs.Pieces.Piece.{word}
 
 begun_plain : (x y z : Bool) (b : ℕ) (ps : List Piece) → cond x false (cond y false (cond z false true)) ≡ true → begun_by x y z b ps ≡ lengthened b ps
 begun_plain true y z b ps h = absurd cc
@@ -17,7 +17,7 @@ pub plain_first : (b : ℕ) (bs : List ℕ) → is_plain b ≡ true → pieces (
 plain_first b bs h = begun_plain (b == 32) (b == 40) (b == 41) b (pieces bs) h
 
 -- what no word begins: it is empty, or its first byte is a space or a bracket
-pub begins_apart : List ℕ → Bool
+unfoldable pub begins_apart : List ℕ → Bool
 begins_apart [] = true
 begins_apart (b ∷ bs) = cond (is_plain b) false true
 

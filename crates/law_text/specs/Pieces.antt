@@ -1,5 +1,5 @@
 -- A line as pieces: spaces, brackets, and the words between them.
-use Rattle.std.specs.Prelude.{◌≡◌, ℕ, ◌+◌, Bool, true, false, ◌==◌, ◌||◌, List, [], ◌∷◌, ◌++◌, length, Option, Some, None, if◌then◌else◌}
+use Rattle.std.specs.Prelude.{◌≡◌, ℕ, ◌+◌, Bool, true, false, ◌==◌, List, [], ◌∷◌, ◌++◌, length, if◌then◌else◌}
 use Rattle.law_text.specs.declared.token.Token.{Token}
 use Rattle.law_text.specs.declared.token.Token.TheVariants.{Open, Close, Space, Word}
 use Rattle.law_text.specs.declared.token.Span.{Span}

@@ -9,3 +9,6 @@ mod words;
 pub use line::Line;
 pub use token::{Span, Token};
 pub use words::{index, is_name, is_word_of_letters, number, put_number};
+
+#[cfg(test)]
+mod tests;

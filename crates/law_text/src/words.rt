@@ -40,7 +40,7 @@ pub fn number(word: &[u8]) -> Option<u64>
 /// where the word spells none.
 pub fn index(word: &[u8]) -> Option<u32>
     ensures value { result ≡ number_below (2 ^ 32) word.now }
-    ensures some { IfSome result (λ n. word.now ≡ decimal n) }
+    ensures some { IfSome result (λ n. (n < 2 ^ 32) × (word.now ≡ decimal n)) }
     ensures none { result ≡ None → (n : ℕ) → n < 2 ^ 32 → word.now ≢ decimal n }
 {
     match number(word) {

@@ -1,4 +1,4 @@
-use Rattle.std.proofs.Common.{◌^◌, rules, arith, sym, ◌∙◌}
+use Rattle.std.proofs.Common.{◌^◌, arith, sym, ◌∙◌}
 use Rattle.std.proofs.lemmas.Fmt.{decimal_injective}
 use Rattle.law_text.proofs.Numbers.{number_found}
 use Rattle.law_text.proofs.words.index.Goals as goal

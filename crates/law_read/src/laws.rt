@@ -1,0 +1,19 @@
+ghost use Rattle.law_read.specs.Laws.{OneFault, OneTerm, OneText, RefusedIsNoText, SpelledIsRead, SpelledIsWalked};
+
+/// Each line that may come at a stage and that the grammar spells is read to its end, and has no fault.
+pub fn spelled_lines_are_read()
+    ensures walked { SpelledIsWalked }
+    ensures read { SpelledIsRead }
+{}
+
+/// A text with a first fault is the spelling of no signature, and it has no other first fault.
+pub fn refused_texts_are_none()
+    ensures none { RefusedIsNoText }
+    ensures one { OneFault }
+{}
+
+/// A text is the spelling of one signature at most, and of one term at most.
+pub fn texts_have_one_reading()
+    ensures text { OneText }
+    ensures term { OneTerm }
+{}
