@@ -11,3 +11,4 @@ pub mod Passing
 pub mod Walked
 pub mod Passed
 pub mod Checked
+pub mod Reading

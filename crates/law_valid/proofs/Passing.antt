@@ -31,7 +31,7 @@ if_yes (inr h) = absurd (no h.1)
 never_over : (entry test : ℕ) (t : Tree) → Yes ≡ Over entry test t → ⊥
 never_over entry test t same = cc
 
-never_no : (rule : Rule) (entry : ℕ) → Yes ≡ No rule entry → ⊥
+pub never_no : (rule : Rule) (entry : ℕ) → Yes ≡ No rule entry → ⊥
 never_no rule entry same = cc
 
 module _ (parts : SigParts) (pools : Pools) where

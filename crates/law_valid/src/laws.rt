@@ -1,3 +1,4 @@
+ghost use Rattle.law_valid.specs.Certificates.{CertCovers, CertYesIsValid, OneReading};
 ghost use Rattle.law_valid.specs.Checking.{YesIsValid, OneAnswer};
 ghost use Rattle.law_valid.specs.Coverage.{ChainsDerive, ValidCovers};
 
@@ -11,4 +12,12 @@ pub fn coverage_laws()
 pub fn checking_laws()
     ensures exact { YesIsValid }
     ensures one { OneAnswer }
+{}
+
+/// The same of a certificate by its names: its laws cover, and the order of checking finds nothing wrong exactly where it
+/// is valid. The lines of its trees have one reading.
+pub fn certificate_laws()
+    ensures covers { CertCovers }
+    ensures exact { CertYesIsValid }
+    ensures reading { OneReading }
 {}

@@ -7,5 +7,5 @@ mod laws;
 mod rule;
 
 pub use certificate::{Bind, Branch, Class, Dir, Entry, SortTree, Step};
-pub use laws::{checking_laws, coverage_laws};
+pub use laws::{certificate_laws, checking_laws, coverage_laws};
 pub use rule::Rule;
