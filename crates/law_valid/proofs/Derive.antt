@@ -86,10 +86,9 @@ module _ (parts : SigParts) (pools : Pools) (all : List Entry)
           one (inl same) = subst (λ (z : Equation). Derivable parts (base_of parts all) z.left z.right) (sym same)
               (derivable_cut parts (base_of parts all) (known parts front) have (chain_derivable parts (known parts front) is.1.chain))
           one (inr no_more) = in_none no_more
-      entry front (e.Spread c) back at_all is there_is have = in_none there_is
       entry front (e.Killed k steps) back at_all is there_is have = in_none there_is
-      entry front (e.Live t) back at_all is there_is have = in_none there_is
       entry front (e.Moved k steps) back at_all is there_is have = in_none there_is
+      entry front x back at_all is there_is have = in_none there_is
 
       by : ((front back : List Entry) → length front ≤ n → all ≡ front ++ back → (k : Equation) → In k (known parts front) → Derivable parts (base_of parts all) k.left k.right)
           → In q parts.settings.background ⊎ In q (stated equation_at before) → Derivable parts (base_of parts all) q.left q.right
