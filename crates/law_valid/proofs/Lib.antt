@@ -12,3 +12,4 @@ pub mod Walked
 pub mod Passed
 pub mod Checked
 pub mod Reading
+pub mod Growing

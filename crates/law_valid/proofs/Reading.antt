@@ -54,14 +54,14 @@ class_no_split ns m k xs ys same = cc
 
 -- Trees of terms
 
-term-Leaf : (n : ℕ) → term_lines (Leaf n) ≡ line.Leaf n ∷ []
+pub term-Leaf : (n : ℕ) → term_lines (Leaf n) ≡ line.Leaf n ∷ []
 term-Leaf n = ap term_lines (sym (rolls-Leaf n)) ∙ fold-roll-Branch ℕ (List TreeLine) term_lines_step (b.Leaf n)
 
 length_map : {A B : Type 0} (f : A → B) (xs : List A) → length (map f xs) ≡ length xs
 length_map f [] = refl
 length_map f (x ∷ xs) = let h : length (map f xs) ≡ length xs = length_map f xs in omega arith
 
-term-Split : (test : ℕ) (kids : List (Branch ℕ)) → term_lines (Split test kids) ≡ line.Split test (length kids) ∷ joined (map term_lines kids)
+pub term-Split : (test : ℕ) (kids : List (Branch ℕ)) → term_lines (Split test kids) ≡ line.Split test (length kids) ∷ joined (map term_lines kids)
 term-Split test kids = ap term_lines (sym (rolls-Split test kids)) ∙ fold-roll-Branch ℕ (List TreeLine) term_lines_step (b.Split test kids)
     ∙ ap (λ n. line.Split test n ∷ joined (map term_lines kids)) (length_map term_lines kids)
 
@@ -82,10 +82,10 @@ terms_known = branch_induct ℕ (IsKnown ℕ term_lines)
 
 -- Trees of schemas
 
-schema-Leaf : (class : Class) → schema_lines (Leaf class) ≡ line.Class class.schemas ∷ term_lines class.terms
+pub schema-Leaf : (class : Class) → schema_lines (Leaf class) ≡ line.Class class.schemas ∷ term_lines class.terms
 schema-Leaf class = ap schema_lines (sym (rolls-Leaf class)) ∙ fold-roll-Branch Class (List TreeLine) schema_lines_step (b.Leaf class)
 
-schema-Split : (test : ℕ) (kids : List (Branch Class)) → schema_lines (Split test kids) ≡ line.Split test (length kids) ∷ joined (map schema_lines kids)
+pub schema-Split : (test : ℕ) (kids : List (Branch Class)) → schema_lines (Split test kids) ≡ line.Split test (length kids) ∷ joined (map schema_lines kids)
 schema-Split test kids = ap schema_lines (sym (rolls-Split test kids)) ∙ fold-roll-Branch Class (List TreeLine) schema_lines_step (b.Split test kids)
     ∙ ap (λ n. line.Split test n ∷ joined (map schema_lines kids)) (length_map schema_lines kids)
 

@@ -7,6 +7,7 @@ use Rattle.law_valid.proofs.Covered.{covers}
 use Rattle.law_valid.proofs.Passing.{never_no}
 use Rattle.law_valid.proofs.Checked.{yes_valid, valid_yes}
 use Rattle.law_valid.proofs.Reading.{one_reading}
+use Rattle.law_valid.proofs.Growing.{spelled_means}
 use Rattle.law_valid.proofs.laws.certificate_laws.Goals as goal
 
 cert_valid : (cert : Cert) → JudgedCert cert Yes → IsValidCert cert
@@ -21,4 +22,5 @@ returns c = record {
   covers = λ cert v. covers v.means.parts (pools_named v.means.parts cert.pools) (entries_named v.means.parts cert.entries) v.means.trees v.valid;
   exact = λ cert. (cert_valid cert, valid_cert cert);
   reading = one_reading;
+  spelled = spelled_means;
 }
