@@ -391,3 +391,80 @@ def judged(parts, pools, entries, trees):
     except Fault as fault:
         return fault.args
     return None
+
+# Coverage.antt: the laws of a valid certificate cover. Each term is led to a live one by the entries, as a derivation from
+# the background and the laws; lemmas are replaced by their chains.
+
+def variables_of(t):
+    """The variables of a term."""
+    return {t} if isinstance(t, Var) else {x for arg in t.args for x in variables_of(arg)}
+
+def instance(subst, derivation):
+    """The derivation of the instance of what a derivation leads to."""
+    rule, *used = derivation
+    if rule == "reflexive":
+        return rule, d.substituted(subst, used[0])
+    if rule == "instance":
+        e, first = used
+        variables = variables_of(e.left) | variables_of(e.right)
+        return rule, e, {x: d.substituted(subst, first.get(x, x)) for x in variables}
+    if rule == "replaced":
+        f, before, after, inner = used
+        return rule, f, *(tuple(d.substituted(subst, t) for t in ts) for ts in (before, after)), instance(subst, inner)
+    return rule, *(instance(subst, one) for one in used)
+
+def replaced_at(place, t, inner):
+    """A derivation at a place of a term."""
+    if not place:
+        return inner
+    at = place[0]
+    return "replaced", t.head, t.args[:at], t.args[at + 1:], replaced_at(place[1:], t.args[at], inner)
+
+def chain(parts, given, steps, s):
+    """The derivation of a chain from a term, by equations that are given with a derivation each."""
+    way, equations = ("reflexive", s), [q for q, _ in given]
+    for step in steps:
+        one = instance({Var(b.sort, b.index): b.term for b in step.binds}, given[step.number - 1][1])
+        one = one if step.dir == "lr" else ("symmetric", one)
+        way, s = ("transitive", way, replaced_at(step.place, s, one)), stepped(parts, equations, step, s)
+    return way
+
+def ways(parts, entries):
+    """For each live term itself, for each moved or killed term its target, each with a derivation."""
+    given, found = [(q, ("instance", q, {})) for q in parts.settings.background], {}
+    for x in entries:
+        if isinstance(x, Law):
+            given.append((x.equation, ("instance", x.equation, {})))
+        elif isinstance(x, Live):
+            found[x.term] = x.term, ("reflexive", x.term)
+        elif not isinstance(x, Spread):
+            way = chain(parts, given, x.steps, x.equation.left)
+            if isinstance(x, Lemma):
+                given.append((x.equation, way))
+            else:
+                found[x.equation.left] = x.equation.right, way
+    return found
+
+def reached(parts, found, t):
+    """The live term that a term reaches, with a derivation."""
+    way = "reflexive", t
+    if isinstance(t, App):
+        args = [reached(parts, found, arg) for arg in t.args]
+        for at, (u, inner) in enumerate(args):
+            way = "transitive", way, ("replaced", t.head, t.args[:at], t.args[at + 1:], inner)
+            t = App(t.head, (*t.args[:at], u, *t.args[at + 1:]))
+    if t in found:
+        return found[t][0], ("transitive", way, found[t][1])
+    general = next(g for g in found if d.schema_of(g) == d.schema_of(t) and is_numbered(parts, g))
+    subst = {Var(sort, i): Var(sort, j) for sort in d.sorts_of(parts)
+             for i, j in zip(d.holes(sort, general), d.holes(sort, t))}
+    target, inner = found[general]
+    u, rest = reached(parts, found, d.substituted(subst, target))
+    return u, ("transitive", ("transitive", way, instance(subst, inner)), rest)
+
+def covers(parts, pools, entries):
+    """Any two terms of one sort are told apart, or are derivable as equal by way of one live term."""
+    found, laws = ways(parts, entries), stated(Law, entries, lambda x: x.equation)
+    to_live = lru_cache(maxsize=None)(lambda t: reached(parts, found, t))
+    way = lambda s, t: ("transitive", to_live(s)[1], ("symmetric", to_live(t)[1]))
+    return d.is_covered(parts, pools, laws, way)
