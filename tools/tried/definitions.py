@@ -342,6 +342,33 @@ def applies(parts, f, args):
     c = symbol and chosen(parts, symbol, args)
     return [Made(v, 1 + spent) for v, spent in gives(parts, Frame(c.fields, args, None), c.body)] if c else []
 
+# Draws.antt of law_gen: the pools of a seed, over the words of a PCG32 generator on stream 0.
+
+def words_of(seed):
+    """The words of the generator: 32 bits each, made from a state of 64 bits by a permutation (O'Neill's XSH-RR)."""
+    multiplier, increment, mask = 6364136223846793005, 1, 2 ** 64 - 1
+    state = ((seed + increment) * multiplier + increment) & mask
+    while True:
+        shifted, turn = (((state >> 18) ^ state) >> 27) & (2 ** 32 - 1), state >> 59
+        yield ((shifted >> turn) | (shifted << (-turn & 31))) & (2 ** 32 - 1)
+        state = (state * multiplier + increment) & mask
+
+def drawn_value(parts, words, sort, height):
+    """A value of a sort with a height left: a word chooses the constructor, and then its fields are drawn in turn."""
+    choices = [c for c in constructors(parts, sort)
+               if all(is_within_height(parts, height - 1, arg) for arg in symbol_at(parts, c).args)]
+    chosen = choices[next(words) % len(choices)]
+    return App(chosen, tuple(drawn_value(parts, words, arg, height - 1) for arg in symbol_at(parts, chosen).args))
+
+def pools_by(parts):
+    """The pools of a signature: those that it gives, or those of its seed."""
+    rule = parts.settings.pools
+    if isinstance(rule, Given):
+        return rule.pools
+    words = words_of(rule.seed)
+    return tuple(tuple(tuple(drawn_value(parts, words, sort, rule.height) for _ in range(width_at(parts, sort)))
+                       for sort in sorts_of(parts)) for _ in range(rule.count))
+
 # Tests.antt: the universe of terms, the pools, the tests, and when two terms agree.
 
 def weight(parts, t):

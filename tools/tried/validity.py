@@ -1,4 +1,4 @@
-"""The definitions of crates/law_valid/specs as a plain program, and of crates/law_gen/specs/Draws.antt, which it needs.
+"""The definitions of crates/law_valid/specs as a plain program.
 
 As in definitions.py there is a part for each file, and each function has the name of its definition. What is defined by
 "exactly these" is listed here: `considered` and `instances` have no counterpart there.
@@ -18,33 +18,6 @@ Spread, Killed = namedtuple("Spread", "schema"), namedtuple("Killed", "equation 
 Live, Moved = namedtuple("Live", "term"), namedtuple("Moved", "equation steps")
 Leaf, Split = namedtuple("Leaf", "leaf"), namedtuple("Split", "test kids")
 Class, SortTree = namedtuple("Class", "schemas terms"), namedtuple("SortTree", "sort tree")
-
-# Draws.antt: the pools of a seed.
-
-def words(seed):
-    """The 32-bit words of the generator PCG32 that begins with this seed, on stream 0."""
-    mask, state = 2 ** 64 - 1, seed + 1
-    while True:
-        state = (state * 6364136223846793005 + 1) & mask
-        shifted, turn = ((state >> 18 ^ state) >> 27) & (2 ** 32 - 1), state >> 59
-        yield (shifted >> turn | shifted << (32 - turn)) & (2 ** 32 - 1)
-
-def value_drawn(parts, height, sort, draws):
-    """One word chooses the constructor among those that fit the height left; its fields have one less."""
-    choices = [c for c in d.constructors(parts, sort)
-               if all(d.is_within_height(parts, height - 1, arg) for arg in d.symbol_at(parts, c).args)]
-    chosen = choices[next(draws) % len(choices)]
-    return App(chosen, tuple(value_drawn(parts, height - 1, arg, draws) for arg in d.symbol_at(parts, chosen).args))
-
-@lru_cache(maxsize=None)
-def seeded_pools(parts):
-    """The pools of a signature's seed, pool by pool, sort by sort, place by place; none where it gives its pools."""
-    rule = parts.settings.pools
-    if isinstance(rule, d.Given):
-        return ()
-    draws = words(rule.seed)
-    return tuple(tuple(tuple(value_drawn(parts, rule.height, sort, draws) for _ in range(d.width_at(parts, sort)))
-                       for sort in d.sorts_of(parts)) for _ in range(rule.count))
 
 # Stated.antt: what the entries of a certificate state, each in the order of the entries.
 
@@ -227,15 +200,10 @@ def are_trees(parts, pools, all_, trees):
 # Valid.antt: when a certificate is valid.
 
 def is_within_limits(parts):
-    """Well-formed, at most 4,096 assignments, and no generated value of more than 4,096 nodes."""
+    """Well-formed, at most 4,096 assignments, and no value of the pools has more than 4,096 nodes."""
     return Record(well_formed=bool(d.is_well_formed(parts)) and Record(
         few_assignments=d.assignments(parts) <= 4096,
-        small_values=all(d.node_count(v) <= 4096 for pool in seeded_pools(parts) for values in pool for v in values)))
-
-def are_pools(parts, pools):
-    """The pools that the signature gives, or those of its seed."""
-    rule = parts.settings.pools
-    return pools == (rule.pools if isinstance(rule, d.Given) else seeded_pools(parts))
+        small_values=all(d.node_count(v) <= 4096 for pool in d.pools_by(parts) for values in pool for v in values)))
 
 def is_number(parts, before, number):
     """Equation numbers run on from the background."""
@@ -287,7 +255,7 @@ def is_valid(parts, pools, entries, trees):
     limits = is_within_limits(parts)
     if not limits:
         return Record(limits=limits)
-    if not are_pools(parts, pools):
+    if pools != d.pools_by(parts):
         return Record(pools_are=False)
     return Record(
         background=all(d.agrees(parts, pools, *q) for q in parts.settings.background),
@@ -383,7 +351,7 @@ def judged(parts, pools, entries, trees):
     """None where nothing is found wrong, else the fault that comes first."""
     try:
         demand(is_within_limits(parts), "V1", 0)
-        demand(are_pools(parts, pools), "V2", 0)
+        demand(pools == d.pools_by(parts), "V2", 0)
         for q in parts.settings.background:
             at_tests(parts, pools, "V3", 0, q)
         judge_entries(parts, pools, entries)

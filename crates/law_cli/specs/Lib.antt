@@ -1,9 +1,6 @@
-pub mod Small
+-- The words of the top call's contract.
 pub mod Printed
-pub mod Promise
 pub mod Reading
-pub mod SmallReadPlain
-pub mod SmallTypes
-pub mod SmallTypesReading
-pub mod SmallReadWords
-pub mod SmallReadOrder
+pub mod Answers
+pub mod Laws
+pub mod Promise

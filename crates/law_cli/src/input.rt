@@ -8,7 +8,7 @@ use law_sig::NoMemory;
 use std::alloc::Global;
 
 /// How many bytes a signature text may have.
-pub const MOST: usize = 65536;
+pub const MOST: usize = 1048576;
 
 /// Why the input could not be read whole.
 #[derive(Clone, Copy, Debug)]
@@ -23,12 +23,12 @@ pub enum Refusal {
 
 /// All bytes of the input. Of a longer input one byte past `MOST` is asked for, and no more.
 pub fn read_all<S: Source>(alloc: Global, input: &mut S) -> Result<Vec<u8>, Refusal>
-    ensures read { IfOk result (λ bytes. WasRead (S.left input.old) (S.left input.new) bytes.items 65536) }
-    ensures long { result ≡ Err refusal.TooLong → GaveTooMany (S.left input.old) (S.left input.new) 65536 }
+    ensures read { IfOk result (λ bytes. WasRead (S.left input.old) (S.left input.new) bytes.items 1048576) }
+    ensures long { result ≡ Err refusal.TooLong → GaveTooMany (S.left input.old) (S.left input.new) 1048576 }
 
     // Whatever the answer, the source is asked for at most one byte past the limit; a fault stands before it.
-    ensures asked { GaveAtMost (S.left input.old) (S.left input.new) 65537 }
-    ensures fault_before { result ≡ Err refusal.Fault → GaveAtMost (S.left input.old) (S.left input.new) 65536 }
+    ensures asked { GaveAtMost (S.left input.old) (S.left input.new) 1048577 }
+    ensures fault_before { result ≡ Err refusal.Fault → GaveAtMost (S.left input.old) (S.left input.new) 1048576 }
 
     // A failed call is the answer, and no other call raised the count.
     ensures fault { result ≡ Err refusal.Fault → Rose (S.faults input.old) (S.faults input.new) }

@@ -2,14 +2,14 @@
 #![tactic(auto)]
 
 mod input;
+mod laws;
 mod list;
 mod plain;
-mod small_read;
-mod small_types;
 mod status;
 mod top;
 
-pub use status::{Status, code, status_line};
+pub use laws::answer_laws;
+pub use status::{FormKind, Status, Which, code, status_line};
 pub use top::run;
 
 #[cfg(test)]

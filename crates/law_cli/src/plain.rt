@@ -1,40 +1,112 @@
-ghost use Rattle.std.specs.Prelude.{IfOk, MatchOption};
-ghost use Rattle.law_cli.specs.Small.{IsSmall};
-ghost use Rattle.law_cli.specs.Promise.{IsLawListOf, IsListedText};
-ghost use Rattle.law_cli.specs.SmallTypes.{IsSmallTyped};
+ghost use Rattle.std.specs.Prelude.{◌≡◌, ◌≤◌, ℕ, List, length, IfOk};
+ghost use Rattle.law_read.specs.Spelling.{sig_spelling};
+ghost use Rattle.law_read.specs.Signature.{IsRawSig};
+ghost use Rattle.law_types.specs.Typed.{IsTypedAs};
+ghost use Rattle.law_cli.specs.Answers.{Cause, IsAnswerTo, IsStated, IsRefusedFor};
+ghost use Rattle.law_cli.specs.Printed.{status_text};
 
-use crate::input::MOST;
 use crate::list::list_text;
-use crate::small_read::read_small;
-use crate::small_types::type_small;
-use law_read::RawSig;
-use law_sig::{NoMemory, PoolRule, Sig, Text};
+use crate::status::{FormKind, Status, Which, status_line};
+use law_explore::{ExploreErr, plain};
+use law_read::{RawSig, ReadErr, read_sig};
+use law_sig::{NoMemory, Sig, Text};
+use law_types::{TypeErr, check_sig};
 use std::alloc::Global;
 
-/// The law list of the signature that the bytes spell; `None` exactly where they spell no small one.
-pub fn plain_text(alloc: Global, bytes: &[u8]) -> Result<Option<Text>, NoMemory>
-    ensures { IfOk result (λ found. MatchOption found (IsSmall bytes.now → ⊥) (λ text. IsLawListOf bytes.now text)) }
-{
-    if bytes.len() > MOST {
-        return Ok(None);
-    }
-    let Some(raw) = read_small(alloc, bytes)? else {
-        return Ok(None);
-    };
-    let Some(sig) = type_small(alloc, raw.lines())? else {
-        return Ok(None);
-    };
-    Ok(Some(explored(alloc, &raw, &sig)?))
+/// How many terms the universe of a signature may have.
+const MOST_TERMS: u64 = 8192;
+
+/// A status, and the text that is printed with it.
+#[derive(Debug, Drop)]
+pub struct Answer {
+    pub status: Status,
+    pub text: Text,
 }
 
-/// The law list of a small signature.
-fn explored(alloc: Global, raw: &RawSig, sig: &Sig) -> Result<Text, NoMemory>
-    requires { IsSmallTyped raw.now sig.now }
-    ensures { IfOk result (λ text. IsListedText raw.now sig.now text) }
+/// The answer to a text: the law list of the signature that it states, or the line that says why there is none.
+pub fn answer_to(alloc: Global, bytes: &[u8]) -> Result<Answer, NoMemory>
+    requires { length bytes.now ≤ 1048576 }
+    ensures { IfOk result (λ found. IsAnswerTo bytes.now found.status found.text) }
 {
-    let laws = law_explore::plain(alloc, sig)?;
-    match &sig.settings().pools {
-        PoolRule::Given(pools) => list_text(alloc, raw, sig, pools.as_slice(), laws.as_slice()),
-        PoolRule::Seeded { .. } => unreachable!(),
+    match read_sig(alloc, bytes) {
+        Ok(raw) => of_lines(alloc, &raw),
+        Err(ReadErr::Form { line, kind }) => {
+            let kind = FormKind::Read(kind);
+            refusal(alloc, Status::Form { line, kind })
+        }
+        Err(ReadErr::NoMemory) => Err(NoMemory),
     }
+}
+
+/// The answer to the text of these lines.
+fn of_lines(alloc: Global, raw: &RawSig) -> Result<Answer, NoMemory>
+    requires raw { IsRawSig raw.now }
+    requires short { length (sig_spelling raw.now) ≤ 1048576 }
+    ensures { IfOk result (λ found. IsAnswerTo (sig_spelling raw.now) found.status found.text) }
+{
+    match check_sig(alloc, raw) {
+        Ok(sig) => of_signature(alloc, raw, &sig),
+        Err(TypeErr::At { line, kind }) => {
+            let kind = FormKind::Sort(kind);
+            refusal(alloc, Status::Form { line, kind })
+        }
+        Err(TypeErr::NoMemory) => Err(NoMemory),
+    }
+}
+
+/// The answer to the text of these lines, which state this signature.
+fn of_signature(alloc: Global, raw: &RawSig, sig: &Sig) -> Result<Answer, NoMemory>
+    requires raw { IsRawSig raw.now }
+    requires typed { IsTypedAs raw.now sig.now }
+    requires short { length (sig_spelling raw.now) ≤ 1048576 }
+    ensures { IfOk result (λ found. IsAnswerTo (sig_spelling raw.now) found.status found.text) }
+{
+    match plain(alloc, sig, MOST_TERMS) {
+        Ok(listed) => {
+            let text = list_text(
+                alloc,
+                raw,
+                sig,
+                listed.pools.as_slice(),
+                listed.laws.as_slice(),
+            )?;
+            Ok(Answer {
+                status: Status::Done,
+                text,
+            })
+        }
+        Err(why) => refusal(alloc, status_for(why)?),
+    }
+}
+
+/// The status of a signature that has no law list.
+fn status_for(why: ExploreErr) -> Result<Status, NoMemory>
+    ensures { IfOk result (λ status. (bytes : List ℕ) → IsRefusedFor bytes why → Cause bytes status) }
+{
+    Ok(match why {
+        ExploreErr::Over { term, test } => Status::Over {
+            entry: 0,
+            test,
+            term,
+        },
+        ExploreErr::BackgroundFails { law, test } => Status::BackgroundFails { law, test },
+        ExploreErr::Assignments => Status::Limit {
+            which: Which::Assignments,
+        },
+        ExploreErr::TooManyTerms => Status::Limit {
+            which: Which::Terms,
+        },
+        ExploreErr::ValueTooLarge { .. } => Status::Limit {
+            which: Which::Value,
+        },
+        ExploreErr::NoMemory => return Err(NoMemory),
+    })
+}
+
+/// The answer with the line of this status.
+fn refusal(alloc: Global, status: Status) -> Result<Answer, NoMemory>
+    ensures { IfOk result (λ found. (found.status ≡ status) × (found.text ≡ status_text status)) }
+{
+    let text = status_line(alloc, &status)?;
+    Ok(Answer { status, text })
 }

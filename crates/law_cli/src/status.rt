@@ -1,18 +1,64 @@
-ghost use Rattle.std.specs.Prelude.{◌≡◌, IfOk};
-ghost use Rattle.law_cli.specs.Printed.{status_text, code_of};
+ghost use Rattle.std.specs.Prelude.{◌≡◌, ◌++◌, ◌∷◌, [], decimal, IfOk, OnOk};
+ghost use Rattle.law_cli.specs.declared.status.Which.TheVariants as which;
+ghost use Rattle.law_cli.specs.declared.status.Status.TheVariants as status;
+ghost use Rattle.law_cli.specs.Printed.{status_text, code_of, read_kind_name, sort_kind_name, kind_name, which_name};
 
+use law_read::{RawTerm, ReadKind, write_term};
 use law_sig::{NoMemory, Text};
+use law_text::put_number;
+use law_types::TypeKind;
 use std::alloc::Global;
 
-/// How a call of `run` ended.
+/// What is wrong with a line of the input.
 #[derive(Clone, Copy, Debug)]
+pub enum FormKind {
+    /// The line has no reading.
+    Read(ReadKind),
+    /// The text has a reading, but the line shows that it states no signature.
+    Sort(TypeKind),
+}
+
+/// A limit that the input passes.
+#[derive(Clone, Copy, Debug)]
+pub enum Which {
+    /// 1,048,576 bytes of a signature text.
+    Bytes,
+    /// 4,096 ways to give places in a pool to all variables.
+    Assignments,
+    /// 8,192 terms of the universe.
+    Terms,
+    /// 4,096 nodes of a generated value.
+    Value,
+}
+
+/// How a call of `run` ended.
+#[derive(Debug, Drop)]
 pub enum Status {
     /// What was asked for was printed whole.
     Done,
     /// The words are not the one word `plain`; the input was not asked for anything.
     Usage,
-    /// The input is no signature of the kind that `plain` takes so far.
-    NotBuilt,
+    /// The input states no signature: the first line that shows it, counted from 1, and why.
+    Form {
+        line: u64,
+        kind: FormKind,
+    },
+    /// The input passes a limit.
+    Limit {
+        which: Which,
+    },
+    /// A term has no value at a test, counted from 0: an application in it needs more steps than the budget. The entry
+    /// is 0, for the signature.
+    Over {
+        entry: u64,
+        test: u64,
+        term: RawTerm,
+    },
+    /// The two sides of a background equation, counted from 1, differ at a test, counted from 0.
+    BackgroundFails {
+        law: u64,
+        test: u64,
+    },
     /// The input failed; nothing was printed.
     ReadFault,
     /// The output failed; it took the first bytes of what would have been printed.
@@ -21,14 +67,72 @@ pub enum Status {
     NoMemory,
 }
 
-/// The one line that is printed for a status, with its line feed, or nothing.
-pub fn line_of(status: Status) -> &'static [u8]
-    ensures { result.now ≡ status_text status }
+/// The line that names the words.
+pub fn usage_line() -> &'static [u8]
+    ensures { result.now ≡ status_text status.Usage }
 {
-    match status {
-        Status::Usage => b"usage: lawfind plain | explore | check | laws | demo N\n",
-        Status::NotBuilt => b"not built\n",
-        Status::Done | Status::ReadFault | Status::WriteFault | Status::NoMemory => b"",
+    b"usage: lawfind plain | explore | check | laws | demo N\n"
+}
+
+/// The line of an input with too many bytes.
+pub fn too_long_line() -> &'static [u8]
+    ensures { result.now ≡ status_text (status.Limit which.Bytes) }
+{
+    b"limit Bytes\n"
+}
+
+/// The name of a kind of a line without a reading.
+fn read_kind_name(kind: ReadKind) -> &'static [u8]
+    ensures { result.now ≡ read_kind_name kind }
+{
+    match kind {
+        ReadKind::Byte => b"Byte",
+        ReadKind::Word => b"Word",
+        ReadKind::Number => b"Number",
+        ReadKind::Missing => b"Missing",
+        ReadKind::Doubled => b"Doubled",
+        ReadKind::TooLong => b"TooLong",
+    }
+}
+
+/// The name of a kind of a fault in what the lines state.
+fn sort_kind_name(kind: TypeKind) -> &'static [u8]
+    ensures { result.now ≡ sort_kind_name kind }
+{
+    match kind {
+        TypeKind::UnknownSort => b"UnknownSort",
+        TypeKind::UnknownName => b"UnknownName",
+        TypeKind::NameTwice => b"NameTwice",
+        TypeKind::Arity => b"Arity",
+        TypeKind::SortMismatch { .. } => b"SortMismatch",
+        TypeKind::CaseMissing => b"CaseMissing",
+        TypeKind::CaseTwice => b"CaseTwice",
+        TypeKind::NotSmaller => b"NotSmaller",
+        TypeKind::LaterCall => b"LaterCall",
+        TypeKind::EmptySort => b"EmptySort",
+        TypeKind::SettingRange => b"SettingRange",
+    }
+}
+
+/// The name of a kind.
+fn kind_name(kind: FormKind) -> &'static [u8]
+    ensures { result.now ≡ kind_name kind }
+{
+    match kind {
+        FormKind::Read(kind) => read_kind_name(kind),
+        FormKind::Sort(kind) => sort_kind_name(kind),
+    }
+}
+
+/// The name of a limit.
+fn which_name(which: Which) -> &'static [u8]
+    ensures { result.now ≡ which_name which }
+{
+    match which {
+        Which::Bytes => b"Bytes",
+        Which::Assignments => b"Assignments",
+        Which::Terms => b"Terms",
+        Which::Value => b"Value",
     }
 }
 
@@ -37,8 +141,72 @@ pub fn status_line(alloc: Global, status: &Status) -> Result<Text, NoMemory>
     ensures { IfOk result (λ text. text ≡ status_text status.now) }
 {
     let mut text = Text::new(alloc);
-    text.push_slice(line_of(*status))?;
+    match status {
+        Status::Usage => text.push_slice(usage_line())?,
+        Status::Form { line, kind } => put_form(&mut text, *line, *kind)?,
+        Status::Limit { which } => put_limit(&mut text, *which)?,
+        Status::Over { entry, test, term } => put_over(alloc, &mut text, *entry, *test, term)?,
+        Status::BackgroundFails { law, test } => put_background(&mut text, *law, *test)?,
+        Status::Done | Status::ReadFault | Status::WriteFault | Status::NoMemory => {}
+    }
     Ok(text)
+}
+
+/// A word of a line and a number behind it.
+fn put_count(out: &mut Text, word: &[u8], count: u64) -> Result<(), NoMemory>
+    ensures { OnOk result (out.new ≡ out.old ++ (word.now ++ decimal count)) }
+{
+    out.push_slice(word)?;
+    put_number(out, count)
+}
+
+/// The same, at the end of a line.
+fn put_last_count(out: &mut Text, word: &[u8], count: u64) -> Result<(), NoMemory>
+    ensures { OnOk result (out.new ≡ out.old ++ (word.now ++ (decimal count ++ 10 ∷ []))) }
+{
+    put_count(out, word, count)?;
+    out.push(b'\n')
+}
+
+fn put_form(out: &mut Text, line: u64, kind: FormKind) -> Result<(), NoMemory>
+    ensures { OnOk result (out.new ≡ out.old ++ status_text (status.Form line kind)) }
+{
+    put_count(out, b"line ", line)?;
+    out.push_slice(b": ")?;
+    out.push_slice(kind_name(kind))?;
+    out.push(b'\n')
+}
+
+fn put_limit(out: &mut Text, which: Which) -> Result<(), NoMemory>
+    ensures { OnOk result (out.new ≡ out.old ++ status_text (status.Limit which)) }
+{
+    out.push_slice(b"limit ")?;
+    out.push_slice(which_name(which))?;
+    out.push(b'\n')
+}
+
+fn put_over(
+    alloc: Global,
+    out: &mut Text,
+    entry: u64,
+    test: u64,
+    term: &RawTerm,
+) -> Result<(), NoMemory>
+    ensures { OnOk result (out.new ≡ out.old ++ status_text (status.Over entry test term.now)) }
+{
+    let spelled = write_term(alloc, term)?;
+    put_count(out, b"over ", entry)?;
+    put_count(out, b" ", test)?;
+    out.push(b' ')?;
+    out.push_slice(spelled.as_slice())?;
+    out.push(b'\n')
+}
+
+fn put_background(out: &mut Text, law: u64, test: u64) -> Result<(), NoMemory>
+    ensures { OnOk result (out.new ≡ out.old ++ status_text (status.BackgroundFails law test)) }
+{
+    put_count(out, b"background ", law)?;
+    put_last_count(out, b" fails at ", test)
 }
 
 /// The number that the program ends with.
@@ -48,9 +216,12 @@ pub fn code(status: &Status) -> u8
     match status {
         Status::Done => 0,
         Status::Usage => 2,
+        Status::Form { .. } => 3,
+        Status::Limit { .. } => 4,
+        Status::Over { .. } => 5,
+        Status::BackgroundFails { .. } => 6,
         Status::ReadFault => 7,
         Status::WriteFault => 8,
         Status::NoMemory => 9,
-        Status::NotBuilt => 10,
     }
 }

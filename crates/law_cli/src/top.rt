@@ -1,13 +1,14 @@
 ghost use Rattle.std.specs.Prelude.{◌≡◌, ◌≢◌, ◌<◌, ◌≤◌, ◌⊎◌, ◌↔◌, map, string_bytes, IsTrue};
 ghost use Rattle.law_io.specs.Counts.{Rose};
 ghost use Rattle.law_io.specs.Takings.{Grows, GrewByPrefix};
+ghost use Rattle.law_cli.specs.Printed.{IsPrinted};
 ghost use Rattle.law_cli.specs.Reading.{GaveAtMost};
-ghost use Rattle.law_cli.specs.Promise.{ArePlainWords, IsDone, IsUsage, IsNotBuilt, IsCutOff};
+ghost use Rattle.law_cli.specs.Promise.{ArePlainWords, CanSucceed, Means, IsCutOff};
 ghost use Rattle.law_cli.specs.declared.status.Status.TheVariants as status;
 
 use crate::input::{Refusal, read_all};
-use crate::plain::plain_text;
-use crate::status::{Status, line_of};
+use crate::plain::{Answer, answer_to};
+use crate::status::{Status, Which, too_long_line, usage_line};
 use law_io::{Sink, Source, push_all};
 use std::alloc::Global;
 
@@ -18,24 +19,25 @@ pub fn run<S: Source, K: Sink>(
     input: &mut S,
     out: &mut K,
 ) -> Status
-    ensures done { result ≡ status.Done →
-        IsDone (map string_bytes words.now) (S.left input.old) (S.left input.new) (K.taken out.old) (K.taken out.new) }
-    ensures usage { result ≡ status.Usage → IsUsage (map string_bytes words.now) (K.taken out.old) (K.taken out.new) }
+    ensures means { Means (map string_bytes words.now) (S.left input.old) (S.left input.new) (K.taken out.old) (K.taken out.new) result }
 
-    // Where the words are not the one word `plain`, that is the answer, and the source isn't asked.
+    // Where the words are not the one word `plain`, the usage line is the answer, and the source isn't asked.
     ensures usage_always { (ArePlainWords (map string_bytes words.now) → ⊥) → (result ≡ status.Usage) ⊎ (result ≡ status.WriteFault) }
     ensures unasked { (ArePlainWords (map string_bytes words.now) → ⊥) → input.new ≡ input.old }
-    ensures not_built { result ≡ status.NotBuilt →
-        IsNotBuilt (map string_bytes words.now) (S.left input.old) (S.left input.new) (K.taken out.old) (K.taken out.new) }
+
+    // A signature within all limits has its law list, or memory runs out.
+    ensures complete {
+        CanSucceed (map string_bytes words.now) (S.left input.old) (S.faults input.old) (S.faults input.new) (K.faults out.old) (K.faults out.new)
+        → (result ≡ status.Done) ⊎ (result ≡ status.NoMemory) }
 
     // Nothing past one byte more than the limit is asked for.
-    ensures asked { GaveAtMost (S.left input.old) (S.left input.new) 65537 }
+    ensures asked { GaveAtMost (S.left input.old) (S.left input.new) 1048577 }
 
     // While a count is below its last value, a failed call of the source or the sink is never passed over.
     ensures read_fault { result ≡ status.ReadFault → Rose (S.faults input.old) (S.faults input.new) }
     ensures read_fault_always { S.faults input.old < S.faults input.new → (result ≡ status.ReadFault) ⊎ (result ≡ status.NoMemory) }
     ensures write_fault { result ≡ status.WriteFault →
-        IsCutOff (map string_bytes words.now) (S.left input.old) (K.taken out.old) (K.taken out.new) (K.faults out.old) (K.faults out.new) }
+        IsCutOff (map string_bytes words.now) (S.left input.old) (S.left input.new) (K.taken out.old) (K.taken out.new) (K.faults out.old) (K.faults out.new) }
     ensures write_fault_always { K.faults out.old < K.faults out.new → result ≡ status.WriteFault }
     ensures read_faults_later { S.faults input.old ≤ S.faults input.new }
     ensures write_faults_later { K.faults out.old ≤ K.faults out.new }
@@ -45,15 +47,20 @@ pub fn run<S: Source, K: Sink>(
     ensures no_memory_prints_nothing { result ≡ status.NoMemory → out.new ≡ out.old }
 {
     if !is_plain(words) {
-        return finish(out, line_of(Status::Usage), Status::Usage);
+        return finish(out, usage_line(), Status::Usage);
     }
     match read_all(alloc, input) {
-        Ok(bytes) => match plain_text(alloc, bytes.as_slice()) {
-            Ok(Some(text)) => finish(out, text.as_slice(), Status::Done),
-            Ok(None) => finish(out, line_of(Status::NotBuilt), Status::NotBuilt),
+        Ok(bytes) => match answer_to(alloc, bytes.as_slice()) {
+            Ok(Answer { status, text }) => finish(out, text.as_slice(), status),
             Err(_) => Status::NoMemory,
         },
-        Err(Refusal::TooLong) => finish(out, line_of(Status::NotBuilt), Status::NotBuilt),
+        Err(Refusal::TooLong) => finish(
+            out,
+            too_long_line(),
+            Status::Limit {
+                which: Which::Bytes,
+            },
+        ),
         Err(Refusal::Fault) => Status::ReadFault,
         Err(Refusal::NoMemory) => Status::NoMemory,
     }
@@ -78,7 +85,7 @@ fn is_same(left: &[u8], right: &[u8]) -> bool
 
 /// Prints the text, and then this status is the answer; the one place that pushes.
 fn finish<K: Sink>(out: &mut K, text: &[u8], planned: Status) -> Status
-    requires { planned ≢ status.WriteFault }
+    requires { IsPrinted planned }
     ensures whole { result ≢ status.WriteFault → Grows (K.taken out.old) (K.taken out.new) text.now }
     ensures answer { (result ≡ planned) ⊎ (result ≡ status.WriteFault) }
     ensures kept { result ≢ status.WriteFault → K.faults out.new ≡ K.faults out.old }

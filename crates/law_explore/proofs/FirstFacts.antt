@@ -41,7 +41,7 @@ module _ (vectors : List (List ℕ)) (at : ℕ) where
   stays (Some first) items known other = (let less = known.0 in omega arith, known.1, known.2)
 
   module _ (old new : Vec ℕ Global → Option ℕ) (v : Vec ℕ Global) (first : ℕ) (here : slice_get vectors at ≡ Some v.items) where
-    abbrev Step : Type 0
+    abbrev pub Step : Type 0
     Step = KnowsBefore vectors (at + 1) new × IsFirstSame vectors at first
 
     noted_new : None_before at v.items → first ≡ at → ((w : Vec ℕ Global) → new w ≡ (if same_items v w then Some at else old w)) → KnowsBefore vectors at old → Step
@@ -82,7 +82,7 @@ module _ (vectors : List (List ℕ)) (at : ℕ) where
       },
     )
 
-    noted : KnowsBefore vectors at old → IsNoted old new v at first → Step
+    pub noted : KnowsBefore vectors at old → IsNoted old new v at first → Step
     noted known is = by (old v) (known v) is
       where
         by : (o : Option ℕ) → MatchOption o (None_before at v.items) (First_before at v.items)

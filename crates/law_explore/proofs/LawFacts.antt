@@ -23,7 +23,7 @@ use Rattle.law_explore.specs.Tells.{Tells}
 use Rattle.law_explore.proofs.Rising.{place_of, at_place, rising_places}
 use Rattle.law_explore.proofs.RowFacts.{in_each_below, each_below_in, each_below_rising}
 
-mapped_some : {A B : Type 0} (f : A → B) (o : Option A) (y : B) → option_map f o ≡ Some y → (x : A) × (o ≡ Some x) × (f x ≡ y)
+pub mapped_some : {A B : Type 0} (f : A → B) (o : Option A) (y : B) → option_map f o ≡ Some y → (x : A) × (o ≡ Some x) × (f x ≡ y)
 mapped_some f None y e = cc
 mapped_some f (Some x) y e = (x, refl, cc)
 

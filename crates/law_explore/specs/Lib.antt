@@ -4,5 +4,6 @@ pub mod Universe
 pub mod Firsts
 pub mod Equations
 pub mod Tells
-pub mod Profile
-pub mod Constants
+pub mod Refusals
+pub mod LawList
+pub mod Values

@@ -7,7 +7,7 @@ use law_sig::NoMemory;
 use std::alloc::Global;
 
 /// The first place of a vector: the one that is noted, or else this one, which is noted from then on.
-fn note(
+pub fn note(
     alloc: Global,
     places: &mut IndexMap<Vec<u64>, usize>,
     vector: &Vec<u64>,

@@ -1,19 +1,24 @@
 //! The terms of a signature's universe in the order of exploring, and the law list that the tests give.
 #![tactic(auto)]
 
-mod constants;
+mod background;
 mod explore;
 mod firsts;
-mod law_list;
 mod laws;
 mod list;
+mod listed;
+mod refusal;
 mod rows;
 mod schemas;
+mod values;
+mod vectors;
+mod words;
 
 pub use explore::universe;
 pub use firsts::first_same;
-pub use law_list::plain;
 pub use laws::equations;
+pub use listed::{Listed, plain, refusal_laws};
+pub use refusal::ExploreErr;
 
 #[cfg(test)]
 mod tests;

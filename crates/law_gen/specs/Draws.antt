@@ -90,3 +90,11 @@ seeded_by parts (rule.Seeded seed height count) = (pools_drawn parts height coun
 
 abbrev pub seeded_pools : SigParts → Pools
 seeded_pools parts = seeded_by parts parts.settings.pools
+
+-- the pools of a signature: those that it gives, or those of its seed
+abbrev pub pools_from : SigParts → PoolRule → Pools
+pools_from parts (rule.Given values) = values
+pools_from parts (rule.Seeded seed height count) = seeded_by parts (rule.Seeded seed height count)
+
+abbrev pub pools_by : SigParts → Pools
+pools_by parts = pools_from parts parts.settings.pools

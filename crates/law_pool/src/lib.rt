@@ -3,6 +3,7 @@
 
 mod given;
 mod pools;
+mod written;
 
 pub use given::given_pools;
 pub use pools::Pools;

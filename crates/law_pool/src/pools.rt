@@ -6,8 +6,9 @@ ghost use Rattle.law_value.specs.Values.{IsOf, tree_of};
 ghost use Rattle.law_pool.specs.Kept.{IsPlaces};
 ghost use Rattle.law_pool.specs.Table.{PoolTable, IsFor, HasShape, AreHeld, pools_of, id_at, ReadsOnePlace, vars_of, width_of, tests_of};
 
-use law_sig::{NoMemory, Seq, Sig, SortId};
-use law_value::ValueId;
+use super::written::write_pool;
+use law_sig::{NoMemory, Seq, Sig, SortId, Tree};
+use law_value::{ValueBank, ValueId};
 use std::alloc::Global;
 use std::marker::Model;
 
@@ -149,5 +150,17 @@ impl Pools {
         let place = self.digit(test, sort, index);
         let pool = test / self.assignments;
         self.pool_value(pool as u32, sort, place)
+    }
+
+    /// All values as trees, by pool, sort and place.
+    pub fn written(&self, alloc: Global, bank: &ValueBank) -> Result<Seq<Seq<Seq<Tree>>>, NoMemory>
+        requires { AreHeld bank.now self.now.ids }
+        ensures { IfOk result (λ pools. pools ≡ pools_of bank.now self.now.ids) }
+    {
+        let mut pools = Seq::new(alloc);
+        for pool in self.values.as_slice() {
+            pools.push(write_pool(alloc, bank, pool.as_slice())?)?;
+        }
+        Ok(pools)
     }
 }

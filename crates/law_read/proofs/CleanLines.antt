@@ -1,12 +1,10 @@
 -- What is spelled has no fault.
-use Rattle.std.proofs.Common.{◌≡◌, ℕ, ◌<◌, Bool, true, false, List, [], ◌∷◌, ◌++◌, Option, Some, None, refl, ap, sym, ◌∙◌, arith, map, length, nat_lt, codes}
+use Rattle.std.proofs.Common.{◌≡◌, ℕ, ◌<◌, Bool, true, false, List, [], ◌∷◌, ◌++◌, Option, Some, None, refl, ap, sym, ◌∙◌, arith, length, nat_lt}
 use Rattle.std.proofs.lemmas.Bool.Decides.{nat_tests}
 use Rattle.std.proofs.lemmas.List.{append-nil}
 use Rattle.std.specs.List.{list_all, AllByRecursion}
 use Rattle.law_text.specs.Pieces.{is_plain, pieces}
-use Rattle.law_read.specs.declared.raw.RawTerm.{RawTerm}
 use Rattle.law_read.specs.declared.raw.RawLine.{RawLine}
-use Rattle.law_read.specs.declared.raw.RawLine.TheVariants as l
 use Rattle.law_read.specs.declared.error.ReadKind.{ReadKind}
 use Rattle.law_read.specs.declared.stage.Version.{Version}
 use Rattle.law_read.specs.declared.stage.Key.{Key}
@@ -14,9 +12,8 @@ use Rattle.law_read.specs.declared.stage.Key.TheVariants as key
 use Rattle.law_read.specs.declared.want.Want.TheVariants as w
 use Rattle.law_read.specs.declared.want.Bounds.TheVariants.{Kept}
 use Rattle.law_read.specs.declared.want.Place.TheVariants as p
-use Rattle.law_read.specs.Spelling.{arg_spelling, joined, line_spelling, line_words, spaced, term_words}
-use Rattle.law_read.specs.Terms.{is_name_in}
-use Rattle.law_read.specs.Lines.{AreValues, IsLine}
+use Rattle.law_read.specs.Spelling.{joined, line_spelling, line_words, spaced}
+use Rattle.law_read.specs.Lines.{IsLine}
 use Rattle.law_read.specs.Stages.{allows_last_key}
 use Rattle.law_read.specs.Walk.{walk}
 use Rattle.law_read.specs.Faults.{is_closed_by, is_printed, is_spaced, kind_in_order, spaces_fit}

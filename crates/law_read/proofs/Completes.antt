@@ -1,5 +1,5 @@
 -- Lines in order have a reading: some lines behind them make them a signature.
-use Rattle.std.proofs.Common.{◌≡◌, ℕ, ◌<◌, ◌^◌, Bool, true, false, ◌&&◌, List, [], ◌∷◌, ◌++◌, Option, Some, None, refl, ap, sym, subst, ◌∙◌, arith, map, codes, nat_le, sum, ◌+◌}
+use Rattle.std.proofs.Common.{◌≡◌, ℕ, ◌<◌, ◌^◌, Bool, true, false, ◌&&◌, List, [], ◌∷◌, ◌++◌, Option, Some, None, refl, ap, ◌∙◌, arith, map, codes, nat_le, sum, ◌+◌}
 use Rattle.std.specs.List.{AllByRecursion, list_all}
 use Rattle.law_read.specs.declared.raw.RawHead.TheVariants.{Name}
 use Rattle.law_read.specs.declared.raw.RawTerm.{RawTerm}
@@ -26,7 +26,6 @@ use Rattle.law_read.specs.Faults.{is_closed_by}
 use Rattle.law_read.specs.Texts.{HasReading}
 use Rattle.law_read.proofs.RowSteps.{both}
 use Rattle.law_read.proofs.Orders.{in_order_spelled, is_end, last_holds}
-use Rattle.law_read.proofs.Whole.{IsWholeFrom}
 
 -- a term of one name, and lines that hold nothing else
 abbrev sample : RawTerm
@@ -196,7 +195,7 @@ pub behind_append : (stage : Stage) (xs ys : List RawLine) → stage_behind stag
 behind_append stage [] ys = refl
 behind_append stage (x ∷ xs) ys = behind_append (stage_after stage x) xs ys
 
-lines_append : (xs ys : List RawLine) → AreLines xs → AreLines ys → AreLines (xs ++ ys)
+pub lines_append : (xs ys : List RawLine) → AreLines xs → AreLines ys → AreLines (xs ++ ys)
 lines_append [] ys h g = g
 lines_append (x ∷ xs) ys h g = (h.0, lines_append xs ys h.1 g)
 
@@ -204,17 +203,28 @@ map_append : (xs ys : List RawLine) → map line_spelling (xs ++ ys) ≡ map lin
 map_append [] ys = refl
 map_append (x ∷ xs) ys = ap (λ l. line_spelling x ∷ l) (map_append xs ys)
 
-pub reads : (lines : List RawLine) → InOrder start lines → AreLines lines → HasReading (map line_spelling lines)
-reads lines order each =
-    let stage = stage_behind start lines in
+-- lines that may stand behind those so far, up to `end`
+pub record ToTheEnd (stage : Stage) : Type 0 where
+  pub lines : List RawLine
+  pub order : InOrder stage lines
+  pub closed : (stage_behind stage lines).last ≡ Some key.End
+  pub each : AreLines lines
+
+pub to_the_end : (stage : Stage) → ToTheEnd stage
+to_the_end stage =
     let more = lines_behind stage.version stage.given stage.last in
     let m = in_order stage more (last_holds goes_on table stage.version stage.given stage.last) in
+    record { lines = more; order = m.0; closed = m.1; each = are_lines stage.version stage.given stage.last }
+
+pub reads : (lines : List RawLine) → InOrder start lines → AreLines lines → HasReading (map line_spelling lines)
+reads lines order each =
+    let m = to_the_end (stage_behind start lines) in
     record {
-      sig = lines ++ more;
+      sig = lines ++ m.lines;
       signature = record {
-        order = in_order_spelled (lines ++ more) (order_append start lines more order m.0) (ap (λ s. s.last) (behind_append start lines more) ∙ m.1);
-        each = lines_append lines more each (are_lines stage.version stage.given stage.last);
+        order = in_order_spelled (lines ++ m.lines) (order_append start lines m.lines order m.order) (ap (λ s. s.last) (behind_append start lines m.lines) ∙ m.closed);
+        each = lines_append lines m.lines each m.each;
       };
-      more = map line_spelling more;
-      begins = map_append lines more;
+      more = map line_spelling m.lines;
+      begins = map_append lines m.lines;
     }

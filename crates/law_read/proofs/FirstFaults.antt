@@ -1,5 +1,5 @@
 -- The first line that has no reading: there is one at most, and none in the text of a signature.
-use Rattle.std.proofs.Common.{◌≡◌, ℕ, ◌+◌, ◌-◌, ◌^◌, min, Bool, true, false, List, [], ◌∷◌, ◌++◌, Option, Some, None, refl, ap, sym, subst, ◌∙◌, map, inl, inr, ◌⊎◌}
+use Rattle.std.proofs.Common.{◌≡◌, ℕ, ◌+◌, ◌-◌, ◌^◌, min, List, [], ◌∷◌, ◌++◌, Some, refl, ap, sym, subst, ◌∙◌, map, inl, inr, ◌⊎◌}
 use Rattle.std.proofs.lemmas.List.{append_assoc, append-nil, length-map}
 use Rattle.std.specs.List.{AllByRecursion}
 use Rattle.law_read.specs.declared.raw.RawLine.{RawLine}
@@ -7,7 +7,7 @@ use Rattle.law_read.specs.declared.error.ReadKind.{ReadKind}
 use Rattle.law_read.specs.declared.stage.Key.TheVariants as key
 use Rattle.law_read.specs.declared.stage.Stage.{Stage}
 use Rattle.law_read.specs.declared.want.Bounds.TheVariants.{Kept}
-use Rattle.law_read.specs.Spelling.{line_spelling, sig_spelling, text_of}
+use Rattle.law_read.specs.Spelling.{line_spelling, text_of}
 use Rattle.law_read.specs.Lines.{IsLine}
 use Rattle.law_read.specs.Stages.{InOrder, stage_after, stage_behind, start}
 use Rattle.law_read.specs.Signature.{IsRawSig}
@@ -16,7 +16,10 @@ use Rattle.law_read.specs.Texts.{AreAll, AreRead, FaultyLine, FirstFault, HasRea
 use Rattle.law_read.specs.Progress.{IsClosed, StopsAt, StopsByEnd, StopsByFault}
 use Rattle.law_read.specs.Laws.{OneFault, RefusedIsNoText}
 use Rattle.law_read.proofs.CleanLines.{line_read_law}
-use Rattle.law_read.proofs.Completes.{reads}
+use Rattle.law_read.proofs.Completes.{behind_append, lines_append, order_append, reads, to_the_end}
+use Rattle.law_read.proofs.Orders.{in_order_spelled}
+use Rattle.law_read.proofs.PlacesFound.{line_kind, one_kind}
+use Rattle.law_read.specs.Places.{LineKind}
 use Rattle.law_read.proofs.OneLine.{one_line}
 use Rattle.law_read.proofs.Whole.{IsWholeFrom, feed_in, line_no_feed, nothing_else, same_line, whole_of}
 
@@ -92,18 +95,25 @@ one_read stage (x ∷ xs) (y ∷ ys) h g a b e =
     let f = one_line stage.version x y h.1 g.1 a.0 b.0 first in
     ap (λ t. t ∷ xs) f ∙ ap (λ ts. y ∷ ts) (one_read (stage_after stage y) xs ys (subst (λ t. InOrder (stage_after stage t) xs) f h.2) g.2 a.1 b.1 more)
 
+order_first : (stage : Stage) (xs ys : List RawLine) → InOrder stage (xs ++ ys) → InOrder stage xs
+order_first stage [] ys h = tt
+order_first stage (x ∷ xs) ys h = (h.0, h.1, order_first (stage_after stage x) xs ys h.2)
+
+lines_first : (xs ys : List RawLine) → AreLines (xs ++ ys) → AreLines xs
+lines_first [] ys h = tt
+lines_first (x ∷ xs) ys h = (h.0, lines_first xs ys h.1)
+
 same_read : (lines : List (List ℕ)) (xs ys : List RawLine) → AreRead lines xs → AreRead lines ys → xs ≡ ys
-same_read lines xs ys a b = one_read start xs ys a.order b.order a.each b.each (a.same ∙ sym b.same)
+same_read lines xs ys a b =
+    one_read start xs ys (order_first start xs a.after (whole_of (xs ++ a.after) a.signature).0) (order_first start ys b.after (whole_of (ys ++ b.after) b.signature).0)
+    (lines_first xs a.after a.signature.each) (lines_first ys b.after b.signature.each) (a.same ∙ sym b.same)
 
 -- Two first faults of a text are one.
 same_kind : (lines : List (List ℕ)) (left : List ℕ) (kind why : ReadKind) → FaultyLine lines left kind ⊎ Unfinished lines left kind → FaultyLine lines left why ⊎ Unfinished lines left why → kind ≡ why
 same_kind lines left kind why (inl f) (inl g) =
     let q = same_line f.line g.line f.behind g.behind f.first.whole g.first.whole (sym f.first.parts ∙ g.first.parts) in
     let r = same_read lines f.raw g.raw f.read g.read in
-    some_kind kind why (sym f.fault ∙ ap (λ t. line_fault (stage_behind start t) f.line) r ∙ ap (line_fault (stage_behind start g.raw)) q.0 ∙ g.fault)
-  where
-    some_kind : (a b : ReadKind) → Some a ≡ Some b → a ≡ b
-    some_kind a b e = cc
+    one_kind g.raw g.line kind why (subst (λ l. LineKind g.raw l kind) q.0 (subst (λ t. LineKind t f.line kind) r f.kind)) g.kind
 same_kind lines left kind why (inl f) (inr u) = let t = feed_in f.line f.behind in let g = ap has_feed f.first.parts in let o = u.open_line in absurd (cc)
 same_kind lines left kind why (inr u) (inl f) = let t = feed_in f.line f.behind in let g = ap has_feed f.first.parts in let o = u.open_line in absurd (cc)
 same_kind lines left kind why (inr u) (inr v) = u.missing ∙ sym v.missing
@@ -177,6 +187,18 @@ closed_by : (raw : List RawLine) → InOrder start raw → AreLines raw → AreA
 closed_by raw order each all =
     let w = whole_of all.sig all.signature in subst IsClosed (one_read start all.sig raw w.0 order w.2 each all.same) w.1
 
+are_read : (raw : List RawLine) → InOrder start raw → AreLines raw → AreRead (map line_spelling raw) raw
+are_read raw order each =
+    let m = to_the_end (stage_behind start raw) in
+    record {
+      same = refl;
+      after = m.lines;
+      signature = record {
+        order = in_order_spelled (raw ++ m.lines) (order_append start raw m.lines order m.order) (ap (λ s. s.last) (behind_append start raw m.lines) ∙ m.closed);
+        each = lines_append raw m.lines each m.each;
+      };
+    }
+
 why_of : (raw : List RawLine) (left : List ℕ) (kind : ReadKind) → InOrder start raw → AreLines raw → StopsByFault raw left kind ⊎ StopsByEnd raw left kind
     → FaultyLine (map line_spelling raw) left kind ⊎ Unfinished (map line_spelling raw) left kind
 why_of raw left kind order each (inl f) = inl (record {
@@ -185,8 +207,8 @@ why_of raw left kind order each (inl f) = inl (record {
   first = f.first;
   stuck = stuck raw f.line kind order each f.fault;
   raw = raw;
-  read = record { same = refl; order = order; each = each };
-  fault = f.fault;
+  read = are_read raw order each;
+  kind = line_kind raw f.line kind order each f.fault;
 })
 why_of raw left kind order each (inr u) = inr (record { open_line = u.open_line; absent = λ n all. u.absent n (closed_by raw order each all); missing = u.missing })
 

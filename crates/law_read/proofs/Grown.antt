@@ -11,6 +11,7 @@ use Rattle.law_read.specs.Stages.{InOrder, start, stage_behind}
 use Rattle.law_read.specs.Faults.{is_closed_by, line_fault}
 use Rattle.law_read.proofs.Completes.{reads}
 use Rattle.law_read.proofs.FirstFaults.{stuck}
+use Rattle.law_read.proofs.PlacesFound.{line_kind}
 use Rattle.law_read.specs.Progress.{Finished, NoReading, Progress, Refused, RefusedAt, StoppedBy, StopsAt}
 use Rattle.law_read.specs.Texts.{FirstLine, next_number}
 use Rattle.law_read.specs.Spelling.{sig_spelling}
@@ -66,7 +67,7 @@ whole stage lines so closed = record {
 -- a line with a fault has no reading behind the lines so far
 pub no_reading : (stage : Stage) (lines : List RawLine) (bytes : List ℕ) (kind : ReadKind) → IsProgress stage lines → line_fault stage bytes ≡ Some kind → NoReading lines bytes kind
 no_reading stage lines bytes kind so e =
-    let f = subst (λ s. line_fault s bytes ≡ Some kind) so.here e in record { stuck = stuck lines bytes kind so.order so.each f; fault = f }
+    let f = subst (λ s. line_fault s bytes ≡ Some kind) so.here e in record { stuck = stuck lines bytes kind so.order so.each f; kind = line_kind lines bytes kind so.order so.each f; fault = f }
 
 pub refused_now : (lines : List RawLine) (refused : Option (ℕ × ReadKind)) (bytes : List ℕ) (number : ℕ) (kind : ReadKind) → NoReading lines bytes kind → refused ≡ None → number ≡ next_number lines
     → RefusedAt (record { lines = lines; refused = refused }) (record { lines = lines; refused = Some (number, kind) }) bytes number kind

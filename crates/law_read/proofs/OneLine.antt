@@ -1,15 +1,13 @@
 -- A line is told by its bytes, in the form of the text's version.
-use Rattle.std.proofs.Common.{◌≡◌, ℕ, ◌<◌, ◌^◌, Bool, true, false, ◌&&◌, ◌==◌, List, [], ◌∷◌, ◌++◌, drop, Option, Some, None, refl, ap, sym, subst, ◌∙◌, arith, map, length, get_or, nat_lt, codes, decimal}
+use Rattle.std.proofs.Common.{◌≡◌, ℕ, ◌<◌, ◌^◌, Bool, true, false, ◌==◌, List, [], ◌∷◌, ◌++◌, drop, Option, Some, None, refl, ap, sym, subst, ◌∙◌, arith, map, length, get_or, nat_lt, codes, decimal}
 use Rattle.std.proofs.lemmas.Bool.Decides.{nat_tests}
 use Rattle.std.proofs.lemmas.Fmt.{decimal_injective}
 use Rattle.std.proofs.lemmas.List.{append-nil}
 use Rattle.std.specs.Str.{bytes_eq}
 use Rattle.std.specs.List.{list_all, AllByRecursion}
-use Rattle.law_text.specs.Words.{is_digit}
 use Rattle.law_text.specs.Pieces.{is_plain}
-use Rattle.law_text.proofs.Numbers.{decimal_numeral}
 use Rattle.law_read.specs.declared.raw.RawHead.{RawHead}
-use Rattle.law_read.specs.declared.raw.RawHead.TheVariants.{Name, Var, Param, Field}
+use Rattle.law_read.specs.declared.raw.RawHead.TheVariants.{Param}
 use Rattle.law_read.specs.declared.raw.RawTerm.TheOpen.{RawTerm-F}
 use Rattle.law_read.specs.declared.raw.RawTerm.{RawTerm}
 use Rattle.law_read.specs.declared.raw.RawTerm.TheFolds.{fold_out-RawTerm}
@@ -28,15 +26,15 @@ use Rattle.law_read.specs.declared.want.Mark.TheVariants.{Equals}
 use Rattle.law_read.specs.declared.want.Place.{Place}
 use Rattle.law_read.specs.declared.want.Place.TheVariants as p
 use Rattle.law_read.specs.Spelling.{arg_spelling, arg_step, bracketed, head_spelling, joined, line_spelling, line_words, spaced, term_words}
-use Rattle.law_read.specs.Terms.{IsTerm, head_fits, is_name_in, nodes_fit, within}
+use Rattle.law_read.specs.Terms.{IsTerm, head_fits, is_name_in, nodes_fit}
 use Rattle.law_read.specs.Lines.{AreValues, IsLine}
 use Rattle.law_read.specs.Order.{shape_of}
 use Rattle.law_read.specs.Stages.{IsOfVersion, key_text, line_key}
 use Rattle.law_read.specs.Walk.{key_of}
 use Rattle.law_read.proofs.RowSteps.{both}
-use Rattle.law_read.proofs.Again.{all_named, head_atom, is_solid, name_solid, number_solid}
+use Rattle.law_read.proofs.Again.{head_atom, name_solid, number_solid}
 use Rattle.law_read.proofs.Orders.{con_of, fun_of, sort_of}
-use Rattle.law_read.proofs.LineWords.{Covers, words_hold, is_fixed}
+use Rattle.law_read.proofs.LineWords.{Covers, words_hold}
 use Rattle.law_read.proofs.OneTerm.{IsWhole, alone_of, one_arg, one_joined, one_term, plain_whole, solid_plain, term_fits, whole_arg, whole_term}
 use Rattle.law_read.proofs.Clean.{is_graphic}
 

@@ -27,7 +27,7 @@ use Rattle.law_read.proofs.OneTerm.{one_term_law}
 use Rattle.law_read.proofs.Whole.{one_text_law}
 
 pub read_as : (text : List ℕ) (lines : List RawLine) → IsRawSig lines → sig_spelling lines ≡ text → IsReadAs text lines
-read_as text lines sig e = record { spelled = e; only = λ others s f. one_text_law others lines s sig (f ∙ sym e) }
+read_as text lines sig e = record { signature = sig; spelled = e; only = λ others s f. one_text_law others lines s sig (f ∙ sym e) }
 
 pub refused_by : (text : List ℕ) (why : ReadErr) → StoppedBy text why → RefusedBy text why
 refused_by text (error.Form number kind) s =

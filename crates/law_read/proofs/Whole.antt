@@ -1,30 +1,24 @@
 -- A text is the spelling of one signature at most.
-use Rattle.std.proofs.Common.{◌≡◌, ℕ, suc, ◌+◌, ◌<◌, Bool, true, false, ◌&&◌, ◌||◌, ◌==◌, List, [], ◌∷◌, ◌++◌, Option, Some, None, refl, ap, sym, subst, ◌∙◌, arith, map, length, get_or, nat_lt, codes, inl, inr, ◌⊎◌}
+use Rattle.std.proofs.Common.{◌≡◌, ℕ, Bool, true, false, ◌||◌, ◌==◌, List, [], ◌∷◌, ◌++◌, Some, refl, ap, sym, subst, ◌∙◌, arith}
 use Rattle.std.proofs.lemmas.Bool.Decides.{nat_tests}
-use Rattle.std.proofs.lemmas.List.{append_assoc, append-nil}
+use Rattle.std.proofs.lemmas.List.{append_assoc}
 use Rattle.std.specs.List.{list_all, AllByRecursion}
-use Rattle.law_text.specs.Pieces.{Piece, pieces}
-use Rattle.law_text.specs.Pieces.Piece.{word}
 use Rattle.law_read.specs.declared.raw.RawLine.{RawLine}
-use Rattle.law_read.specs.declared.raw.RawLine.TheVariants as l
-use Rattle.law_read.specs.declared.error.ReadKind.{ReadKind}
-use Rattle.law_read.specs.declared.stage.Key.{Key}
 use Rattle.law_read.specs.declared.stage.Key.TheVariants as key
 use Rattle.law_read.specs.declared.stage.Stage.{Stage}
 use Rattle.law_read.specs.declared.want.Bounds.TheVariants.{Kept}
-use Rattle.law_read.specs.Spelling.{line_spelling, line_words, sig_spelling, spaced}
+use Rattle.law_read.specs.Spelling.{line_spelling, line_words, sig_spelling}
 use Rattle.law_read.specs.Lines.{IsLine}
-use Rattle.law_read.specs.Stages.{IsOfVersion, allows, key_text, line_key, stage_after}
+use Rattle.law_read.specs.Stages.{stage_after}
 use Rattle.law_read.specs.Signature.{IsRawSig}
 use Rattle.law_read.specs.Stages.{InOrder, start, stage_behind}
-use Rattle.law_read.specs.Walk.{key_of}
 use Rattle.law_read.specs.Laws.{OneText}
-use Rattle.law_read.specs.Faults.{is_printed, line_fault}
+use Rattle.law_read.specs.Faults.{is_printed}
 use Rattle.law_read.specs.Texts.{has_feed}
 use Rattle.law_read.proofs.Orders.{spelled_in_order}
 use Rattle.law_read.proofs.RowSteps.{both}
 use Rattle.law_read.proofs.OneLine.{one_line}
-use Rattle.law_read.proofs.CleanLines.{clean_joined, clean_words, line_read_law}
+use Rattle.law_read.proofs.CleanLines.{clean_joined, clean_words}
 
 -- a line has no line feed in it
 no_feed_byte : (b : ℕ) → is_printed b ≡ true → (b == 10) ≡ false

@@ -21,7 +21,3 @@ Spells (one piece) row = row ≡ piece ∷ []
 Spells {P} (series g h) row = (front : List P) × (back : List P) × (row ≡ front ++ back) × Spells g front × Spells h back
 Spells (either g h) row = Spells g row ⊎ Spells h row
 Spells {P} (many g) row = (rows : List (List P)) × (row ≡ flat_map (λ r. r) rows) × AllByRecursion (Spells g) rows
-
--- A row has a reading where some row that the grammar spells begins with it.
-abbrev pub Begins : {P : Type 0} → Grammar P → List P → Type 0
-Begins {P} g row = (more : List P) × Spells g (row ++ more)

@@ -27,6 +27,17 @@ abbrev pub SpelledIsRead : Type 0
 SpelledIsRead = (stage : Stage) (line : RawLine) → allows stage (line_key line) ≡ true → IsOfVersion stage.version line → IsLine Kept line
     → line_fault stage (line_spelling line) ≡ None
 
+-- A line that has no fault at a stage is the spelling of one that may come there.
+pub record Comes (stage : Stage) (bytes : List ℕ) : Type 0 where
+  pub line : RawLine
+  pub allowed : allows stage (line_key line) ≡ true
+  pub form : IsOfVersion stage.version line
+  pub spelled : IsLine Kept line
+  pub text : line_spelling line ≡ bytes
+
+abbrev pub ReadIsSpelled : Type 0
+ReadIsSpelled = (stage : Stage) (bytes : List ℕ) → line_fault stage bytes ≡ None → Comes stage bytes
+
 -- A text with a first fault is the spelling of no signature, and it has one first fault: number and kind.
 abbrev pub RefusedIsNoText : Type 0
 RefusedIsNoText = (text : List ℕ) (number : ℕ) (kind : ReadKind) → FirstFault text number kind → (lines : List RawLine) → IsRawSig lines → sig_spelling lines ≡ text → ⊥

@@ -1,5 +1,5 @@
 -- What the reader of lines knows: the lines so far, and the line that it refused.
-use Rattle.std.specs.Prelude.{◌≡◌, ℕ, ◌+◌, ◌-◌, ◌^◌, Bool, List, [], ◌∷◌, ◌++◌, length, map, Option, Some, None, min, ◌⊎◌}
+use Rattle.std.specs.Prelude.{◌≡◌, ℕ, Bool, List, [], ◌∷◌, ◌++◌, map, Option, Some, None, ◌⊎◌}
 use Rattle.std.specs.List.{AllByRecursion}
 use Rattle.law_read.specs.declared.raw.RawLine.{RawLine}
 use Rattle.law_read.specs.declared.want.Bounds.TheVariants.{Kept}
@@ -16,6 +16,7 @@ use Rattle.law_read.specs.Terms.{IsTerm}
 use Rattle.law_read.specs.declared.raw.RawTerm.{RawTerm}
 use Rattle.law_read.specs.declared.want.Place.TheVariants as p
 use Rattle.law_read.specs.LineReads.{LineRead}
+use Rattle.law_read.specs.Places.{LineKind}
 use Rattle.law_read.specs.Texts.{FirstLine, HasReading, IsUnbroken, next_number}
 use Rattle.law_read.specs.declared.error.ReadErr.{ReadErr}
 use Rattle.law_read.specs.declared.error.ReadErr.TheVariants as error
@@ -52,9 +53,10 @@ pub record Added (old new : Progress) (bytes : List ℕ) (done : Bool) : Type 0 
   pub reads : HasReading (map line_spelling new.lines)
 
 -- No text of the grammar has the line behind those before it: it has no reading, and why.
-pub record NoReading (lines : List RawLine) (bytes : List ℕ) (kind : ReadKind) : Type 0 where
+pub record NoReading (lines : List RawLine) (bytes : List ℕ) (why : ReadKind) : Type 0 where
   pub stuck : HasReading (map line_spelling lines ++ bytes ∷ []) → ⊥
-  pub fault : line_fault (stage_behind start lines) bytes ≡ Some kind
+  pub kind : LineKind lines bytes why
+  pub fault : line_fault (stage_behind start lines) bytes ≡ Some why
 
 -- The line was refused, now or earlier, and stays so.
 pub record RefusedAt (old new : Progress) (bytes : List ℕ) (number : ℕ) (kind : ReadKind) : Type 0 where

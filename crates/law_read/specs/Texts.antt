@@ -1,5 +1,5 @@
 -- Whole texts: what has a reading, and the first line that has none.
-use Rattle.std.specs.Prelude.{◌≡◌, ℕ, ◌+◌, ◌-◌, ◌^◌, Bool, false, ◌==◌, List, [], ◌∷◌, ◌++◌, length, map, min, Some, None, ◌⊎◌}
+use Rattle.std.specs.Prelude.{◌≡◌, ℕ, ◌+◌, ◌-◌, ◌^◌, Bool, false, ◌==◌, List, [], ◌∷◌, ◌++◌, length, map, min, Some, ◌⊎◌}
 use Rattle.std.specs.List.{AllByRecursion, list_any}
 use Rattle.law_read.specs.declared.raw.RawLine.{RawLine}
 use Rattle.law_read.specs.declared.raw.RawTerm.{RawTerm}
@@ -11,10 +11,9 @@ use Rattle.law_read.specs.declared.error.ReadErr.{ReadErr}
 use Rattle.law_read.specs.declared.error.ReadErr.TheVariants as error
 use Rattle.law_read.specs.Spelling.{line_spelling, sig_spelling, term_spelling, text_of}
 use Rattle.law_read.specs.Terms.{IsTerm}
-use Rattle.law_read.specs.Lines.{IsLine}
 use Rattle.law_read.specs.Signature.{IsRawSig}
-use Rattle.law_read.specs.Stages.{InOrder, start, stage_behind}
-use Rattle.law_read.specs.Faults.{line_fault, term_fault}
+use Rattle.law_read.specs.Places.{LineKind}
+use Rattle.law_read.specs.Faults.{term_fault}
 
 abbrev pub has_feed : List ℕ → Bool
 has_feed bytes = list_any (λ b. b == 10) bytes
@@ -40,21 +39,21 @@ pub record AreAll (lines : List (List ℕ)) : Type 0 where
   pub signature : IsRawSig sig
   pub same : map line_spelling sig ≡ lines
 
--- what lines are read as
+-- What lines are read as: these are their spellings, and they begin a signature.
 pub record AreRead (lines : List (List ℕ)) (raw : List RawLine) : Type 0 where
   pub same : map line_spelling raw ≡ lines
-  pub order : InOrder start raw
-  pub each : AllByRecursion (IsLine Kept) raw
+  pub after : List RawLine
+  pub signature : IsRawSig (raw ++ after)
 
 -- The next line of the text has no reading behind the lines before it, and why.
-pub record FaultyLine (lines : List (List ℕ)) (left : List ℕ) (kind : ReadKind) : Type 0 where
+pub record FaultyLine (lines : List (List ℕ)) (left : List ℕ) (why : ReadKind) : Type 0 where
   pub line : List ℕ
   pub behind : List ℕ
   pub first : FirstLine left line behind
   pub stuck : HasReading (lines ++ line ∷ []) → ⊥
   pub raw : List RawLine
   pub read : AreRead lines raw
-  pub fault : line_fault (stage_behind start raw) line ≡ Some kind
+  pub kind : LineKind raw line why
 
 -- The text ends in an unfinished line, or where a line is needed.
 pub record Unfinished (lines : List (List ℕ)) (left : List ℕ) (kind : ReadKind) : Type 0 where
@@ -78,6 +77,7 @@ pub record FirstFault (text : List ℕ) (number : ℕ) (kind : ReadKind) : Type 
 
 -- The text is the spelling of this signature, and of no other.
 pub record IsReadAs (text : List ℕ) (lines : List RawLine) : Type 0 where
+  pub signature : IsRawSig lines
   pub spelled : sig_spelling lines ≡ text
   pub only : (others : List RawLine) → IsRawSig others → sig_spelling others ≡ text → others ≡ lines
 

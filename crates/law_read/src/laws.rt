@@ -1,9 +1,11 @@
-ghost use Rattle.law_read.specs.Laws.{OneFault, OneTerm, OneText, RefusedIsNoText, SpelledIsRead, SpelledIsWalked};
+ghost use Rattle.law_read.specs.Laws.{OneFault, OneTerm, OneText, ReadIsSpelled, RefusedIsNoText, SpelledIsRead, SpelledIsWalked};
 
-/// Each line that may come at a stage and that the grammar spells is read to its end, and has no fault.
+/// Each line that may come at a stage and that the grammar spells is read to its end, and has no fault; and a
+/// line without a fault is the spelling of one that may come.
 pub fn spelled_lines_are_read()
     ensures walked { SpelledIsWalked }
     ensures read { SpelledIsRead }
+    ensures spelled { ReadIsSpelled }
 {}
 
 /// A text with a first fault is the spelling of no signature, and it has no other first fault.

@@ -41,8 +41,8 @@ fn sort_plain(alloc: Global, line: &mut Line<'_>) -> Result<RawLine, Stop>
 }
 
 #[tactic(auto, using(crate::proofs::LineSteps::line_steps))]
-fn sort_second(alloc: Global, line: &mut Line<'_>) -> Result<RawLine, Stop>
-    ensures { MatchResult result (RestRead Second key.Sort line.old.left) (λ stop. Stops stop (walk 0 (line_wants Second key.Sort) (pieces line.old.left))) }
+fn sort_sized(alloc: Global, line: &mut Line<'_>) -> Result<RawLine, Stop>
+    ensures { MatchResult result (λ raw. RestRead Second key.Sort line.old.left raw × RestRead Third key.Sort line.old.left raw) (λ stop. Stops stop (walk 0 (line_wants Second key.Sort) (pieces line.old.left))) }
 {
     gap(line)?;
     let name = name(alloc, line)?;
@@ -55,22 +55,8 @@ fn sort_second(alloc: Global, line: &mut Line<'_>) -> Result<RawLine, Stop>
 }
 
 #[tactic(auto, using(crate::proofs::LineSteps::line_steps))]
-fn sort_third(alloc: Global, line: &mut Line<'_>) -> Result<RawLine, Stop>
-    ensures { MatchResult result (RestRead Third key.Sort line.old.left) (λ stop. Stops stop (walk 0 (line_wants Third key.Sort) (pieces line.old.left))) }
-{
-    gap(line)?;
-    let name = name(alloc, line)?;
-    gap(line)?;
-    let vars = numeral(line)?;
-    gap(line)?;
-    let width = numeral(line)?;
-    end(line)?;
-    Ok(RawLine::SortLine2 { name, vars, width })
-}
-
-#[tactic(auto, using(crate::proofs::LineSteps::line_steps))]
-fn con_first(alloc: Global, line: &mut Line<'_>) -> Result<RawLine, Stop>
-    ensures { MatchResult result (RestRead First key.Con line.old.left) (λ stop. Stops stop (walk 0 (line_wants First key.Con) (pieces line.old.left))) }
+fn con_plain(alloc: Global, line: &mut Line<'_>) -> Result<RawLine, Stop>
+    ensures { MatchResult result (λ raw. RestRead First key.Con line.old.left raw × RestRead Second key.Con line.old.left raw) (λ stop. Stops stop (walk 0 (line_wants First key.Con) (pieces line.old.left))) }
 {
     gap(line)?;
     let name = name(alloc, line)?;
@@ -80,8 +66,8 @@ fn con_first(alloc: Global, line: &mut Line<'_>) -> Result<RawLine, Stop>
 }
 
 #[tactic(auto, using(crate::proofs::LineSteps::line_steps))]
-fn fun_first(alloc: Global, line: &mut Line<'_>) -> Result<RawLine, Stop>
-    ensures { MatchResult result (RestRead First key.Fun line.old.left) (λ stop. Stops stop (walk 0 (line_wants First key.Fun) (pieces line.old.left))) }
+fn fun_plain(alloc: Global, line: &mut Line<'_>) -> Result<RawLine, Stop>
+    ensures { MatchResult result (λ raw. RestRead First key.Fun line.old.left raw × RestRead Second key.Fun line.old.left raw) (λ stop. Stops stop (walk 0 (line_wants First key.Fun) (pieces line.old.left))) }
 {
     gap(line)?;
     let name = name(alloc, line)?;
@@ -93,31 +79,7 @@ fn fun_first(alloc: Global, line: &mut Line<'_>) -> Result<RawLine, Stop>
 }
 
 #[tactic(auto, using(crate::proofs::LineSteps::line_steps))]
-fn con_second(alloc: Global, line: &mut Line<'_>) -> Result<RawLine, Stop>
-    ensures { MatchResult result (RestRead Second key.Con line.old.left) (λ stop. Stops stop (walk 0 (line_wants Second key.Con) (pieces line.old.left))) }
-{
-    gap(line)?;
-    let name = name(alloc, line)?;
-    let args = names(alloc, line, Row::Sorts, Ending::Line)?;
-    end(line)?;
-    Ok(RawLine::ConLine { name, args })
-}
-
-#[tactic(auto, using(crate::proofs::LineSteps::line_steps))]
-fn fun_second(alloc: Global, line: &mut Line<'_>) -> Result<RawLine, Stop>
-    ensures { MatchResult result (RestRead Second key.Fun line.old.left) (λ stop. Stops stop (walk 0 (line_wants Second key.Fun) (pieces line.old.left))) }
-{
-    gap(line)?;
-    let name = name(alloc, line)?;
-    let args = names(alloc, line, Row::Sorts, Ending::Mark(Mark::Arrow))?;
-    gap(line)?;
-    let result = crate::part::name(alloc, line)?;
-    end(line)?;
-    Ok(RawLine::FunLine { name, args, result })
-}
-
-#[tactic(auto, using(crate::proofs::LineSteps::line_steps))]
-fn con_third(alloc: Global, line: &mut Line<'_>) -> Result<RawLine, Stop>
+fn con_weighted(alloc: Global, line: &mut Line<'_>) -> Result<RawLine, Stop>
     ensures { MatchResult result (RestRead Third key.Con line.old.left) (λ stop. Stops stop (walk 0 (line_wants Third key.Con) (pieces line.old.left))) }
 {
     gap(line)?;
@@ -130,7 +92,7 @@ fn con_third(alloc: Global, line: &mut Line<'_>) -> Result<RawLine, Stop>
 }
 
 #[tactic(auto, using(crate::proofs::LineSteps::line_steps))]
-fn fun_third(alloc: Global, line: &mut Line<'_>) -> Result<RawLine, Stop>
+fn fun_weighted(alloc: Global, line: &mut Line<'_>) -> Result<RawLine, Stop>
     ensures { MatchResult result (RestRead Third key.Fun line.old.left) (λ stop. Stops stop (walk 0 (line_wants Third key.Fun) (pieces line.old.left))) }
 {
     gap(line)?;
@@ -155,8 +117,8 @@ fn sort(alloc: Global, version: Version, line: &mut Line<'_>) -> Result<RawLine,
 {
     match version {
         Version::First => sort_plain(alloc, line),
-        Version::Second => sort_second(alloc, line),
-        Version::Third => sort_third(alloc, line),
+        Version::Second => Ok(sort_sized(alloc, line)?),
+        Version::Third => Ok(sort_sized(alloc, line)?),
     }
 }
 
@@ -165,9 +127,9 @@ fn con(alloc: Global, version: Version, line: &mut Line<'_>) -> Result<RawLine, 
     ensures { MatchResult result (RestRead version key.Con line.old.left) (λ stop. Stops stop (walk 0 (line_wants version key.Con) (pieces line.old.left))) }
 {
     match version {
-        Version::First => con_first(alloc, line),
-        Version::Second => con_second(alloc, line),
-        Version::Third => con_third(alloc, line),
+        Version::First => Ok(con_plain(alloc, line)?),
+        Version::Second => Ok(con_plain(alloc, line)?),
+        Version::Third => con_weighted(alloc, line),
     }
 }
 
@@ -176,9 +138,9 @@ fn fun(alloc: Global, version: Version, line: &mut Line<'_>) -> Result<RawLine, 
     ensures { MatchResult result (RestRead version key.Fun line.old.left) (λ stop. Stops stop (walk 0 (line_wants version key.Fun) (pieces line.old.left))) }
 {
     match version {
-        Version::First => fun_first(alloc, line),
-        Version::Second => fun_second(alloc, line),
-        Version::Third => fun_third(alloc, line),
+        Version::First => Ok(fun_plain(alloc, line)?),
+        Version::Second => Ok(fun_plain(alloc, line)?),
+        Version::Third => fun_weighted(alloc, line),
     }
 }
 

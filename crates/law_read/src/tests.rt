@@ -134,8 +134,183 @@ fn faults_of_lines(rt: HostRuntime) {
     assert!(rt; is_fault(rt.alloc(), NOT, 17, b"values B (F)", ReadKind::Word));
 }
 
+/// Where two kinds compete, and where a bound is kept just so.
+#[test]
+fn first_of_two_kinds(rt: HostRuntime) {
+    assert!(rt; is_fault(rt.alloc(), NOT, 2, b"vars  \t", ReadKind::Byte));
+    assert!(rt; is_fault(rt.alloc(), NOT, 2, b"size  x", ReadKind::Doubled));
+    assert!(rt; is_fault(rt.alloc(), NOT, 2, b" ", ReadKind::Doubled));
+    assert!(rt; is_fault(rt.alloc(), NOT, 2, b"\x7f", ReadKind::Byte));
+    assert!(rt; is_refused(rt.alloc(), b"signature 1\nvars  \t", 2, ReadKind::Missing));
+    assert!(rt;
+        is_fault(
+            rt.alloc(),
+            NOT,
+            10,
+            b"con T B B B B B B B B 9",
+            ReadKind::TooLong
+        )
+    );
+    assert!(rt;
+        is_fault(
+            rt.alloc(),
+            NOT,
+            13,
+            b"case F = f a a a a a a a a (",
+            ReadKind::TooLong
+        )
+    );
+    assert!(rt;
+        is_fault(
+            rt.alloc(),
+            NOT_2,
+            12,
+            b"background f a a a a a a a a B.x = a",
+            ReadKind::Number
+        )
+    );
+    assert!(rt;
+        is_fault(
+            rt.alloc(),
+            NOT_2,
+            12,
+            b"background f a a a a a a a a 9 = a",
+            ReadKind::Word
+        )
+    );
+    assert!(rt;
+        is_fault(
+            rt.alloc(),
+            NOT_2,
+            12,
+            b"background f a a a a a a a a b = a",
+            ReadKind::TooLong
+        )
+    );
+    assert!(rt;
+        is_fault(
+            rt.alloc(),
+            NOT_2,
+            12,
+            b"background f a a a a a a a a =",
+            ReadKind::Missing
+        )
+    );
+    assert!(rt;
+        is_fault(
+            rt.alloc(),
+            NOT_2,
+            5,
+            b"pools seed 7 height (",
+            ReadKind::Word
+        )
+    );
+    assert!(rt;
+        is_fault(
+            rt.alloc(),
+            NOT_2,
+            5,
+            b"pools seed 7 heigth x",
+            ReadKind::Word
+        )
+    );
+    assert!(rt; is_fault(rt.alloc(), NOT_2, 5, b"pools", ReadKind::Missing));
+    assert!(rt; is_fault(rt.alloc(), NOT_2, 5, b"pools x", ReadKind::Word));
+    assert!(rt; is_fault(rt.alloc(), NOT, 1, b"signature x", ReadKind::Word));
+    assert!(rt;
+        is_kind(
+            rt.alloc(),
+            b"BBBBBBBBBBBBBBBBBBBBBBBBBBBBBBBBB.x",
+            ReadKind::Number
+        )
+    );
+    assert!(rt;
+        is_kind(
+            rt.alloc(),
+            b"BBBBBBBBBBBBBBBBBBBBBBBBBBBBBBBBB.0",
+            ReadKind::TooLong
+        )
+    );
+    assert!(rt;
+        is_kind(
+            rt.alloc(),
+            b"BBBBBBBBBBBBBBBBBBBBBBBBBBBBBBBB_",
+            ReadKind::TooLong
+        )
+    );
+    assert!(rt;
+        is_kind(
+            rt.alloc(),
+            b"_BBBBBBBBBBBBBBBBBBBBBBBBBBBBBBBBB",
+            ReadKind::Word
+        )
+    );
+    assert!(rt; is_term_again(rt.alloc(), b"BBBBBBBBBBBBBBBBBBBBBBBBBBBBBBBB.0"));
+}
+
+fn is_line(alloc: Global, text: &[u8], number: u64, line: &[u8]) -> bool {
+    match replaced(alloc, text, number, line) {
+        Ok(text) => is_text_again(alloc, text.as_slice()),
+        Err(_) => false,
+    }
+}
+
+#[test]
+fn greatest_numbers(rt: HostRuntime) {
+    assert!(rt; is_line(rt.alloc(), NOT, 2, b"vars 9223372036854775807"));
+    assert!(rt; is_line(rt.alloc(), NOT_3, 8, b"con 9223372036854775807 T"));
+    assert!(rt; is_line(rt.alloc(), NOT_2, 10, b"body = f #4294967295 @4294967295"));
+    assert!(rt;
+        is_fault(
+            rt.alloc(),
+            NOT_2,
+            10,
+            b"body = f #4294967296",
+            ReadKind::Number
+        )
+    );
+    assert!(rt;
+        is_fault(
+            rt.alloc(),
+            NOT_2,
+            10,
+            b"body = f @4294967296",
+            ReadKind::Number
+        )
+    );
+    assert!(rt;
+        is_fault(
+            rt.alloc(),
+            NOT_3,
+            8,
+            b"con 9223372036854775808 T",
+            ReadKind::Number
+        )
+    );
+}
+
+#[test]
+fn lines_one_by_one(rt: HostRuntime) -> Result<(), Fail> {
+    let mut reader = SigLines::new(rt.alloc());
+    let mut line = Text::new(rt.alloc());
+    for byte in NOT {
+        if *byte == b'\n' {
+            let done = reader.add(line.as_slice()).ok().ok_or("a line is read")?;
+            assert!(rt; done == (line.as_slice() == b"end".as_slice()));
+            line = Text::new(rt.alloc());
+        } else {
+            line.push(*byte).ok().ok_or("there is memory")?;
+        }
+    }
+    let raw = reader.finish().ok().ok_or("the lines are a signature")?;
+    let again = write_sig(rt.alloc(), &raw).ok().ok_or("there is memory")?;
+    assert!(rt; again.as_slice() == NOT);
+    Ok(())
+}
+
 #[test]
 fn faults_of_texts(rt: HostRuntime) {
+    assert!(rt; is_refused(rt.alloc(), b"signature 1\n\n", 2, ReadKind::Missing));
     assert!(rt; is_refused(rt.alloc(), &NOT[..NOT.len() - 1], 18, ReadKind::Missing));
     assert!(rt; is_refused(rt.alloc(), b"signature 1\nvars\t1", 2, ReadKind::Missing));
     assert!(rt; is_refused(rt.alloc(), b"signature 1\nvars 1\n", 3, ReadKind::Missing));

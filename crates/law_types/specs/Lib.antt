@@ -1,2 +1,12 @@
+pub mod Names
+pub mod TypedTerm
+pub mod Rows
+pub mod Heights
+pub mod Table
+pub mod Declarations
+pub mod TermFaults
+pub mod LineFaults
 pub mod Naming
 pub mod Typed
+pub mod Stated
+pub mod Laws

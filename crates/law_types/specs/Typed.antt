@@ -19,6 +19,8 @@ use Rattle.law_sig.specs.declared.parts.SigParts.{SigParts}
 use Rattle.law_read.specs.declared.raw.RawLine.{RawLine}
 use Rattle.law_read.specs.declared.raw.RawLine.TheVariants as line
 use Rattle.law_types.specs.Naming.{sort_name, symbol_name, named_term, named_body}
+use Rattle.law_types.specs.declared.errors.TypeErr.{TypeErr}
+use Rattle.law_types.specs.declared.errors.TypeErr.TheVariants as err
 
 -- Versions
 
@@ -152,3 +154,8 @@ pub record IsTypedAs (lines : List RawLine) (parts : SigParts) : Type 0 where
   pub lines_are : lines ≡ settings_lines version parts ++ (joined (map (sort_block version parts) (sort_ids parts)) ++ (functions
       ++ (line.Explore (map (symbol_name parts) parts.settings.explored) ∷ (map (background_line parts) parts.settings.background
       ++ (given_lines parts parts.settings.pools ++ line.End ∷ [])))))
+
+-- what an error says: with a fault, that the lines state no signature
+abbrev pub StatesNothing : List RawLine → TypeErr → Type 0
+StatesNothing lines (err.At number kind) = (parts : SigParts) → IsTypedAs lines parts → ⊥
+StatesNothing lines err.NoMemory = Unit {0}

@@ -13,3 +13,4 @@ pub mod Passed
 pub mod Checked
 pub mod Reading
 pub mod Growing
+pub mod Meanings

@@ -8,6 +8,7 @@ use Rattle.law_cert.specs.Certificates.{IsCertText}
 use Rattle.law_types.specs.Typed.{IsTypedAs}
 use Rattle.law_valid.specs.declared.certificate.SortTree.{SortTree}
 use Rattle.law_valid.specs.Stated.{stated, law_at}
+use Rattle.law_valid.specs.Judged.{Answer}
 use Rattle.law_valid.specs.Judged.Answer.{Yes}
 use Rattle.law_valid.specs.Named.{pools_named, entries_named, AreTreesOf, Meaning, IsValidCert, JudgedCert}
 
@@ -27,3 +28,7 @@ OneReading = (parts : SigParts) (raws : List WrittenTree) (trees others : List S
 -- a certificate that the grammar spells, and whose lines state a signature, states something over it
 abbrev pub SpelledMeans : Type 0
 SpelledMeans = (cert : Cert) (parts : SigParts) → IsCertText cert → IsTypedAs cert.sig parts → (m : Meaning cert) × (m.parts ≡ parts)
+
+-- there is at most one answer
+abbrev pub OneCertAnswer : Type 0
+OneCertAnswer = (cert : Cert) (a b : Answer) → JudgedCert cert a → JudgedCert cert b → a ≡ b

@@ -7,6 +7,7 @@ use Rattle.law_valid.proofs.Covered.{covers}
 use Rattle.law_valid.proofs.Passing.{never_no}
 use Rattle.law_valid.proofs.Checked.{yes_valid, valid_yes}
 use Rattle.law_valid.proofs.Reading.{one_reading}
+use Rattle.law_valid.proofs.Meanings.{one_cert_answer}
 use Rattle.law_valid.proofs.Growing.{spelled_means}
 use Rattle.law_valid.proofs.laws.certificate_laws.Goals as goal
 
@@ -21,6 +22,7 @@ pub returns : goal.returns
 returns c = record {
   covers = λ cert v. covers v.means.parts (pools_named v.means.parts cert.pools) (entries_named v.means.parts cert.entries) v.means.trees v.valid;
   exact = λ cert. (cert_valid cert, valid_cert cert);
+  one = one_cert_answer;
   reading = one_reading;
   spelled = spelled_means;
 }

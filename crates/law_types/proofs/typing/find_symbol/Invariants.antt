@@ -1,0 +1,7 @@
+use Rattle.std.proofs.Common.{◌≡◌, drop}
+use Rattle.std.specs.List.{position_from}
+use Rattle.law_types.specs.Names.{same_name, number_of}
+use Rattle.law_types.proofs.typing.find_symbol.Given as goal
+
+abbrev pub invariant-loop-at : goal.invariant-loop-at
+invariant-loop-at l = position_from (same_name l.name) l.at (drop l.at l.sig.symbol_names) ≡ number_of l.sig.symbol_names l.name
