@@ -1,5 +1,5 @@
 -- A certificate states one thing at most, so one answer is given of it.
-use Rattle.std.proofs.Common.{◌≡◌, ◌⊎◌, inl, inr, List, sym, ◌∙◌, subst}
+use Rattle.std.proofs.Common.{◌≡◌, inl, inr, List, sym, ◌∙◌, subst}
 use Rattle.law_sig.specs.declared.parts.SigParts.{SigParts}
 use Rattle.law_types.proofs.OneSignature.{one_signature}
 use Rattle.law_cert.specs.declared.cert.Cert.{Cert}
