@@ -1,19 +1,13 @@
--- A certificate by its names: what its text states over a signature. A name that isn't declared becomes a number that isn't,
--- so what it stands in has no sort, and the rule that asks for it fails.
-use Rattle.std.specs.Prelude.{◌≡◌, ℕ, suc, List, [], ◌∷◌, ◌⊎◌, length, map, if◌then◌else◌, unwrap_or, bytes_eq}
-use Rattle.std.specs.List.{position_from}
+-- A certificate by its names: what its text states over a signature. A term with a name that isn't declared has no sort, so
+-- the rule that asks for it fails.
+use Rattle.std.specs.Prelude.{◌≡◌, ℕ, suc, List, [], ◌∷◌, ◌⊎◌, length, map, if◌then◌else◌, unwrap_or}
 use Rattle.law_sig.specs.Trees.{same_sort, joined}
 use Rattle.law_sig.specs.Tests.{Pools}
 use Rattle.law_sig.specs.declared.tree.SortId.{SortId}
-use Rattle.law_sig.specs.declared.tree.SymId.{SymId}
 use Rattle.law_sig.specs.declared.tree.Tree.{Tree}
-use Rattle.law_sig.specs.declared.tree.Tree.TheVariants.{Var, App}
+use Rattle.law_sig.specs.declared.tree.Tree.TheVariants.{Var}
 use Rattle.law_sig.specs.declared.parts.SigParts.{SigParts}
-use Rattle.law_read.specs.declared.raw.RawHead.{RawHead}
-use Rattle.law_read.specs.declared.raw.RawHead.TheVariants as head
 use Rattle.law_read.specs.declared.raw.RawTerm.{RawTerm}
-use Rattle.law_read.specs.declared.raw.RawTerm.TheOpen.{RawTerm-F}
-use Rattle.law_read.specs.declared.raw.RawTerm.TheFolds.{fold-RawTerm}
 use Rattle.law_cert.specs.declared.cert.Dir.TheVariants as written_dir
 use Rattle.law_cert.specs.declared.cert.Dir.{Dir as WrittenDir}
 use Rattle.law_cert.specs.declared.cert.RawBind.{RawBind}
@@ -25,7 +19,9 @@ use Rattle.law_cert.specs.declared.cert.TreeLine.{TreeLine}
 use Rattle.law_cert.specs.declared.cert.TreeLine.TheVariants as line
 use Rattle.law_cert.specs.declared.cert.SortTree.{SortTree as WrittenTree}
 use Rattle.law_cert.specs.declared.cert.Cert.{Cert}
+use Rattle.law_types.specs.Names.{number_of}
 use Rattle.law_types.specs.Typed.{IsTypedAs}
+use Rattle.law_types.specs.TypedTerm.{tree_of}
 use Rattle.law_valid.specs.declared.certificate.Bind.{Bind}
 use Rattle.law_valid.specs.declared.certificate.Branch.{Branch}
 use Rattle.law_valid.specs.declared.certificate.Branch.TheOpen.{Branch-F}
@@ -44,28 +40,13 @@ use Rattle.law_valid.specs.Judged.{Answer, No, Judged}
 
 -- Terms
 
--- the number of a name among names, and how many they are where it is none of them
-abbrev pub number_among : List (List ℕ) → List ℕ → ℕ
-number_among names name = unwrap_or (position_from (bytes_eq name) 0 names) (length names)
-
+-- the number of a sort, and a number that no sort has where the name isn't declared
 abbrev pub sort_named : SigParts → List ℕ → SortId
-sort_named parts name = record { 0 = number_among parts.sort_names name }
+sort_named parts name = record { 0 = unwrap_or (number_of parts.sort_names name) (length parts.sort_names) }
 
-abbrev pub symbol_named : SigParts → List ℕ → SymId
-symbol_named parts name = record { 0 = number_among parts.symbol_names name }
-
--- a name over arguments, and a variable; parameters and fields stand in no term of a certificate
-abbrev pub term_over : SigParts → RawHead → List Tree → Tree
-term_over parts (head.Name name) args = App (symbol_named parts name) args
-term_over parts (head.Var sort index) args = Var (sort_named parts sort) index
-term_over parts (head.Param number) args = Var (record { 0 = length parts.sort_names }) 0
-term_over parts (head.Field number) args = Var (record { 0 = length parts.sort_names }) 0
-
-abbrev pub term_step : SigParts → RawTerm-F Tree → Tree
-term_step parts term = term_over parts term.head term.args
-
+-- the term that is written so, and a variable of no declared sort where a name in it isn't declared
 abbrev pub term_named : SigParts → RawTerm → Tree
-term_named parts = fold-RawTerm Tree (term_step parts)
+term_named parts raw = unwrap_or (tree_of parts raw) (Var (record { 0 = length parts.sort_names }) 0)
 
 -- Pools: a line of values that isn't that of the sort whose turn it is counts as one without values
 
