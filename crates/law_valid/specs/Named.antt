@@ -8,8 +8,6 @@ use Rattle.law_sig.specs.declared.tree.Tree.{Tree}
 use Rattle.law_sig.specs.declared.tree.Tree.TheVariants.{Var}
 use Rattle.law_sig.specs.declared.parts.SigParts.{SigParts}
 use Rattle.law_read.specs.declared.raw.RawTerm.{RawTerm}
-use Rattle.law_cert.specs.declared.cert.Dir.TheVariants as written_dir
-use Rattle.law_cert.specs.declared.cert.Dir.{Dir as WrittenDir}
 use Rattle.law_cert.specs.declared.cert.RawBind.{RawBind}
 use Rattle.law_cert.specs.declared.cert.RawStep.{RawStep}
 use Rattle.law_cert.specs.declared.cert.RawValues.{RawValues}
@@ -28,8 +26,6 @@ use Rattle.law_valid.specs.declared.certificate.Branch.TheOpen.{Branch-F}
 use Rattle.law_valid.specs.declared.certificate.Branch.TheOpen as b
 use Rattle.law_valid.specs.declared.certificate.Branch.TheFolds.{fold-Branch}
 use Rattle.law_valid.specs.declared.certificate.Class.{Class}
-use Rattle.law_valid.specs.declared.certificate.Dir.{Dir}
-use Rattle.law_valid.specs.declared.certificate.Dir.TheVariants as dir
 use Rattle.law_valid.specs.declared.certificate.Entry.{Entry}
 use Rattle.law_valid.specs.declared.certificate.Entry.TheVariants as e
 use Rattle.law_valid.specs.declared.certificate.SortTree.{SortTree}
@@ -65,12 +61,8 @@ pools_named parts raws = map (pool_named parts 0) raws
 abbrev pub bind_named : SigParts → RawBind → Bind
 bind_named parts raw = record { sort = sort_named parts raw.sort; index = raw.index; term = term_named parts raw.term }
 
-abbrev pub dir_named : WrittenDir → Dir
-dir_named written_dir.LeftToRight = dir.Lr
-dir_named written_dir.RightToLeft = dir.Rl
-
 abbrev pub step_named : SigParts → RawStep → Step
-step_named parts raw = record { place = raw.pos; number = raw.eq; dir = dir_named raw.dir; binds = map (bind_named parts) raw.binds }
+step_named parts raw = record { place = raw.pos; number = raw.eq; dir = raw.dir; binds = map (bind_named parts) raw.binds }
 
 abbrev pub entry_named : SigParts → Written → Entry
 entry_named parts (w.Law number mark left right) = e.Law number (record { left = term_named parts left; right = term_named parts right })
