@@ -1,5 +1,5 @@
 -- Facts for the answer to a text: what a line of a status says of the bytes, and how long texts are.
-use Rattle.std.proofs.Common.{◌≡◌, ◌≢◌, ◌⊎◌, inl, inr, Option, ℕ, suc, ◌+◌, ◌<◌, ◌≤◌, ◌^◌, List, [], ◌∷◌, ◌++◌, length, map, Result, Ok, Err, IfOk, OnOk, arith, sym, ap, ◌∙◌, subst, refl}
+use Rattle.std.proofs.Common.{◌≡◌, ◌≢◌, ◌⊎◌, inl, inr, Option, ℕ, ◌<◌, ◌≤◌, ◌^◌, List, [], ◌∷◌, ◌++◌, length, map, Result, Ok, Err, IfOk, OnOk, arith, sym, ap, ◌∙◌, subst, refl}
 use Rattle.std.specs.Bool.{⊤}
 use Rattle.std.proofs.lemmas.List.{length-append, length-map, append_assoc}
 use Rattle.law_sig.specs.declared.parts.SigParts.{SigParts}
@@ -13,7 +13,7 @@ use Rattle.law_laws.proofs.ListFacts.{each_map}
 use Rattle.law_gen.specs.Draws.{pools_from, pools_by, generator_of}
 use Rattle.law_gen.proofs.PoolFacts.{pools_shape}
 use Rattle.law_read.specs.declared.raw.RawLine.{RawLine}
-use Rattle.law_read.specs.Spelling.{line_spelling, sig_spelling, text_of}
+use Rattle.law_read.specs.Spelling.{line_spelling, sig_spelling}
 use Rattle.law_types.specs.Typed.{IsTypedAs, HasFewSorts, background_line, settings_lines, sort_block, sort_ids, given_lines}
 use Rattle.law_types.specs.Naming.{symbol_name}
 use Rattle.law_sig.specs.Trees.{joined}

@@ -1,5 +1,5 @@
 -- A signature within all limits has its law list, where no call of the source or the sink fails.
-use Rattle.std.proofs.Common.{◌≡◌, ℕ, suc, ◌+◌, ◌≤◌, ◌⊎◌, inl, inr, List, [], ◌++◌, length, Option, Some, None, arith, refl, sym, ap, ◌∙◌, subst}
+use Rattle.std.proofs.Common.{◌≡◌, ℕ, ◌≤◌, ◌⊎◌, inl, inr, List, ◌++◌, length, Option, Some, None, arith, sym, ap, ◌∙◌, subst}
 use Rattle.std.proofs.lemmas.List.{length-append, append-nil}
 use Rattle.law_io.specs.Counts.{Rose}
 use Rattle.law_read.proofs.FirstFaults.{one_fault_law}

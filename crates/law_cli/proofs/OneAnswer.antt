@@ -1,14 +1,12 @@
 -- Each text has one answer.
-use Rattle.std.proofs.Common.{◌≡◌, ◌≢◌, ◌⊎◌, inl, inr, ℕ, List, Option, Some, None, refl, sym, ap, ap₂, ◌∙◌, subst}
+use Rattle.std.proofs.Common.{◌≡◌, ◌⊎◌, inl, inr, ℕ, List, Option, Some, None, refl, sym, ap, ap₂, ◌∙◌, subst}
 use Rattle.law_sig.specs.Laws.{IsLawList}
 use Rattle.law_sig.specs.Tests.{Pools}
-use Rattle.law_sig.specs.declared.tree.Tree.{Tree}
 use Rattle.law_sig.specs.declared.parts.Equation.{Equation}
 use Rattle.law_sig.specs.declared.parts.SigParts.{SigParts}
 use Rattle.law_laws.proofs.Agreement.{one_law_list}
 use Rattle.law_read.specs.declared.raw.RawLine.{RawLine}
 use Rattle.law_read.specs.declared.error.ReadKind.{ReadKind}
-use Rattle.law_read.specs.Spelling.{sig_spelling}
 use Rattle.law_read.specs.Signature.{IsRawSig}
 use Rattle.law_read.specs.Texts.{IsRefused}
 use Rattle.law_read.specs.Laws.{OneText, OneFault}
@@ -79,14 +77,17 @@ kinds bytes text (status.Limit which.Terms) h =
 kinds bytes text (status.Limit which.Value) ((pool, sort, w), e) =
     inr (e, inr (inr (record { lines = w.lines; parts = w.parts; stated = w.stated; why = ValueTooLarge pool sort; refused = w.told; is = refl })))
 kinds bytes text (status.Over entry test term) ((zero_is, w), e) =
-    inr (e, inr (inr (record {
-      lines = w.lines;
-      parts = w.parts;
-      stated = w.stated;
-      why = Over w.told.0 test;
-      refused = w.told.2;
-      is = ap₂ (λ n t. status.Over n test t) zero_is w.told.1;
-    })))
+    inr (
+      e,
+      inr (inr (record {
+        lines = w.lines;
+        parts = w.parts;
+        stated = w.stated;
+        why = Over w.told.0 test;
+        refused = w.told.2;
+        is = ap₂ (λ n t. status.Over n test t) zero_is w.told.1;
+      })),
+    )
 kinds bytes text (status.BackgroundFails law test) h =
     inr (h.1, inr (inr (record { lines = h.0.lines; parts = h.0.parts; stated = h.0.stated; why = BackgroundFails law test; refused = h.0.told; is = refl })))
 kinds bytes text status.ReadFault h = absurd h.0

@@ -1,5 +1,5 @@
 -- Facts for the top call: one word, and what the input was.
-use Rattle.std.proofs.Common.{◌≡◌, ℕ, suc, ◌+◌, ◌<◌, ◌≤◌, List, [], ◌∷◌, ◌++◌, length, take, Option, Some, None, slice_index_or, arith, sym, ap, ◌∙◌, subst, refl, length-append, Bool, true, false, if◌then◌else◌}
+use Rattle.std.proofs.Common.{◌≡◌, ℕ, suc, ◌+◌, ◌≤◌, List, [], ◌∷◌, ◌++◌, length, take, Option, slice_index_or, arith, sym, ap, length-append, Bool, true, false, if◌then◌else◌}
 use Rattle.law_cli.specs.Reading.{GaveAtMost, GaveTooMany}
 use Rattle.std.proofs.lemmas.List.{length-take}
 use Rattle.std.specs.Io.KnownBytes.{Consumes}

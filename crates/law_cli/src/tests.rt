@@ -338,7 +338,16 @@ fn places_of_variables(rt: HostRuntime) -> Result<(), Fail> {
     let alloc = rt.alloc();
     assert!(rt; refuses(alloc, PLACES, 6, "background 1 fails at 11\n")?);
     let two = "B.1 = a0\npool\nvalues A a0 a0\nvalues B b0 b1 b2\npool\n";
-    assert!(rt; refuses_changed(alloc, PLACES, "B.1 = a0\npool\n", two, 6, "background 1 fails at 29\n")?);
+    assert!(rt;
+        refuses_changed(
+            alloc,
+            PLACES,
+            "B.1 = a0\npool\n",
+            two,
+            6,
+            "background 1 fails at 29\n"
+        )?
+    );
     Ok(())
 }
 

@@ -26,8 +26,7 @@ pub fn run<S: Source, K: Sink>(
     ensures unasked { (ArePlainWords (map string_bytes words.now) → ⊥) → input.new ≡ input.old }
 
     // A signature within all limits has its law list, or memory runs out.
-    ensures complete {
-        CanSucceed (map string_bytes words.now) (S.left input.old) (S.faults input.old) (S.faults input.new) (K.faults out.old) (K.faults out.new)
+    ensures complete { CanSucceed (map string_bytes words.now) (S.left input.old) (S.faults input.old) (S.faults input.new) (K.faults out.old) (K.faults out.new)
         → (result ≡ status.Done) ⊎ (result ≡ status.NoMemory) }
 
     // Nothing past one byte more than the limit is asked for.

@@ -1,17 +1,15 @@
 -- The sorts and symbols of a text, by number.
-use Rattle.std.proofs.Common.{◌≡◌, ◌≢◌, ℕ, zero, suc, ◌+◌, ◌<◌, ◌≤◌, List, [], ◌∷◌, ◌++◌, map, length, drop, Bool, true, false, ◌==◌, ne_eqb, eq-eqb, is_some, Option, Some, None, slice_get, slice_index_or, option_map, unwrap_or, if◌then◌else◌, IsTrue, rules, arith, add-one, append_assoc, append-nil, true≢false, refl, sym, ap, ap₂, ◌∙◌, subst}
+use Rattle.std.proofs.Common.{◌≡◌, ◌≢◌, ℕ, zero, suc, ◌+◌, ◌<◌, ◌≤◌, List, [], ◌∷◌, ◌++◌, map, length, drop, true, ne_eqb, eq-eqb, is_some, Option, Some, None, slice_get, option_map, unwrap_or, if◌then◌else◌, rules, arith, add-one, append_assoc, append-nil, true≢false, refl, sym, ap, ap₂, ◌∙◌, subst}
 use Rattle.std.proofs.lemmas.Option.{slice_get_within, get_or_from_slice_get}
 use Rattle.law_sig.specs.Lists.{Each}
 use Rattle.law_sig.specs.Trees.{joined}
 use Rattle.law_sig.specs.Tests.{first_of}
-use Rattle.law_sig.specs.Signature.{is_declared_sort, symbol_at, args_of, makes_sort, constructors, constructors_from, vars_at, width_at, weight_at}
+use Rattle.law_sig.specs.Signature.{symbol_at, args_of, constructors, constructors_from, vars_at, width_at, weight_at}
 use Rattle.law_sig.specs.WellFormed.{IsDeclared}
 use Rattle.law_sig.specs.declared.tree.SortId.{SortId}
 use Rattle.law_sig.specs.declared.tree.SymId.{SymId}
 use Rattle.law_sig.specs.declared.parts.Sym.{Sym}
-use Rattle.law_sig.specs.declared.parts.Sym.TheVariants as sym
 use Rattle.law_sig.specs.declared.parts.SigParts.{SigParts}
-use Rattle.law_laws.proofs.BodyFacts.{some_is, none_is}
 use Rattle.law_read.specs.declared.raw.RawLine.{RawLine}
 use Rattle.law_read.specs.declared.raw.RawLine.TheVariants as line
 use Rattle.law_types.specs.Names.{number_of}
@@ -29,7 +27,7 @@ use Rattle.law_types.proofs.TermSound.{sort_named, sort_id_is}
 use Rattle.law_types.proofs.Laid.{ConRow, SortRow, FunRow, Layout, con_line, sort_line, cons_then, sorts_then, rules_then, funs_then, tail_lines}
 use Rattle.law_types.proofs.Gathered.{per_con}
 use Rattle.law_types.proofs.Told.{con_sym, con_syms, fun_sym, fun_syms}
-use Rattle.law_types.proofs.Passed.{Both, IsKnown, ConGood, SortGood, ConsGood, SortsGood, cons_seen}
+use Rattle.law_types.proofs.Passed.{Both, IsKnown, ConsGood, SortsGood, cons_seen}
 use Rattle.law_types.proofs.States.{States}
 
 abbrev pub sort_no : ℕ → SortId

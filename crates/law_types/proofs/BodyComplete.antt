@@ -1,5 +1,5 @@
 -- A body and a value that are well-formed show no fault.
-use Rattle.std.proofs.Common.{◌≡◌, ℕ, zero, suc, ◌+◌, ◌<◌, ◌≤◌, List, [], ◌∷◌, map, length, Bool, true, false, true≢false, not, ◌&&◌, ◌||◌, ◌==◌, nat_lt, eqb, eqb-true, eq-eqb, rules, arith, if◌then◌else◌, Option, Some, None, slice_get, refl, sym, ap, ap₂, ◌∙◌, subst}
+use Rattle.std.proofs.Common.{◌≡◌, ℕ, suc, ◌<◌, ◌≤◌, List, [], ◌∷◌, map, length, Bool, true, false, true≢false, not, ◌&&◌, ◌||◌, ◌==◌, nat_lt, eqb-true, eq-eqb, rules, arith, if◌then◌else◌, Option, Some, None, slice_get, refl, sym, ap, ap₂, ◌∙◌, subst}
 use Rattle.std.specs.List.{list_all}
 use Rattle.std.specs.Option.{option_or}
 use Rattle.std.proofs.lemmas.List.{length-map}
@@ -26,16 +26,14 @@ use Rattle.law_read.specs.declared.raw.RawHead.{RawHead}
 use Rattle.law_read.specs.declared.raw.RawHead.TheVariants as head
 use Rattle.law_read.specs.declared.raw.RawTerm.{RawTerm}
 use Rattle.law_read.specs.declared.raw.RawTerm.TheOpen.{RawTerm-F}
-use Rattle.law_read.specs.declared.raw.RawTerm.TheViews.{out-RawTerm, out-roll-RawTerm}
+use Rattle.law_read.specs.declared.raw.RawTerm.TheViews.{out-roll-RawTerm}
 use Rattle.law_types.specs.Names.{number_of}
 use Rattle.law_types.specs.Naming.{symbol_name, raw_term, named_term, name_step, named_body, name_body_step}
-use Rattle.law_types.specs.TermFaults.{fault_if, mismatch, is_body, is_true_at, falls_at, symbol_faults, name_faults, atom_faults, node_faults, is_field, is_field_term, head_symbol, symbol_of, wanted_of, term_fault}
+use Rattle.law_types.specs.TermFaults.{fault_if, mismatch, falls_at, symbol_faults, name_faults, atom_faults, node_faults, is_field, is_field_term, head_symbol, symbol_of, wanted_of, term_fault}
 use Rattle.law_types.specs.LineFaults.{value_scope}
 use Rattle.law_types.specs.declared.errors.TypeKind.{TypeKind}
 use Rattle.law_types.specs.declared.errors.TypeKind.TheVariants as kind
 use Rattle.law_types.specs.declared.scope.Scope.{Scope}
-use Rattle.law_types.specs.declared.scope.Standing.{Standing}
-use Rattle.law_types.specs.declared.scope.Standing.TheVariants as standing
 use Rattle.law_types.specs.declared.whole.Whole.{Whole}
 use Rattle.law_types.proofs.TermFacts.{args_fault}
 use Rattle.law_types.proofs.TreeOfFacts.{number_again}

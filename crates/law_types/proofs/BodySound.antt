@@ -1,6 +1,5 @@
 -- What a written body without faults states: it is well-formed, and written so.
-use Rattle.std.proofs.Common.{◌≡◌, ℕ, zero, suc, ◌+◌, ◌<◌, ◌≤◌, List, [], ◌∷◌, map, length, Bool, true, false, true≢false, not, ◌&&◌, ◌||◌, ◌==◌, nat_lt, eqb-true, eq-eqb, rules, arith, if◌then◌else◌, Option, Some, None, slice_get, refl, sym, ap, ap₂, ◌∙◌, subst}
-use Rattle.std.specs.Option.{option_or}
+use Rattle.std.proofs.Common.{◌≡◌, ℕ, zero, suc, ◌≤◌, List, [], ◌∷◌, map, length, Bool, true, false, true≢false, not, ◌&&◌, ◌||◌, ◌==◌, nat_lt, eq-eqb, rules, arith, if◌then◌else◌, Option, Some, None, slice_get, refl, sym, ap, ap₂, ◌∙◌}
 use Rattle.std.proofs.lemmas.List.{length-map}
 use Rattle.law_sig.specs.Lists.{Each}
 use Rattle.law_sig.specs.Signature.{args_of, result_of, symbol_at, same_sorts, sort_over}
@@ -16,26 +15,24 @@ use Rattle.law_sig.specs.declared.tree.Body.TheFolds.{fold-Body, fold_out-Body, 
 use Rattle.law_sig.specs.declared.parts.Sym.{Sym}
 use Rattle.law_sig.specs.declared.parts.Sym.TheVariants as sym
 use Rattle.law_sig.specs.declared.parts.SigParts.{SigParts}
-use Rattle.law_laws.proofs.BodyFacts.{some_is, none_is}
 use Rattle.law_laws.proofs.Sorts.{same_sort_itself}
 use Rattle.law_read.specs.declared.raw.RawHead.{RawHead}
 use Rattle.law_read.specs.declared.raw.RawHead.TheVariants as head
 use Rattle.law_read.specs.declared.raw.RawTerm.{RawTerm}
 use Rattle.law_read.specs.declared.raw.RawTerm.TheOpen.{RawTerm-F}
-use Rattle.law_read.specs.declared.raw.RawTerm.TheViews.{out-RawTerm, out-roll-RawTerm}
+use Rattle.law_read.specs.declared.raw.RawTerm.TheViews.{out-roll-RawTerm}
 use Rattle.law_read.specs.declared.raw.RawTerm.TheFolds.{fold-roll-RawTerm}
 use Rattle.law_types.specs.Names.{number_of}
-use Rattle.law_types.specs.Naming.{symbol_name, raw_term, named_body, name_body_step}
+use Rattle.law_types.specs.Naming.{raw_term, named_body, name_body_step}
 use Rattle.law_types.specs.TermFaults.{mismatch, is_side, is_body, is_true_at, falls_at, node_faults, is_field, is_field_term, head_symbol, symbol_of, wanted_of, term_fault}
-use Rattle.law_types.specs.Stated.{symbol_id, symbol_body, body_over, body_step, stated_body}
-use Rattle.law_types.specs.declared.errors.TypeKind.{TypeKind}
+use Rattle.law_types.specs.Stated.{symbol_body, body_over, body_step, stated_body}
 use Rattle.law_types.specs.declared.scope.Scope.{Scope}
 use Rattle.law_types.specs.declared.scope.Standing.{Standing}
 use Rattle.law_types.specs.declared.scope.Standing.TheVariants as standing
 use Rattle.law_types.specs.declared.whole.Whole.{Whole}
 use Rattle.law_types.proofs.TermFacts.{args_fault}
 use Rattle.law_types.proofs.TreeOfFacts.{raw_induct}
-use Rattle.law_types.proofs.SideFacts.{Declares, headed, headed_args, headed_result, in_parts, term_raw}
+use Rattle.law_types.proofs.SideFacts.{Declares, headed, in_parts, term_raw}
 use Rattle.law_types.proofs.TermSound.{neither, wanted_is, Named, named_found, varied_found, atom_found, symbol_named, symbol_id_is}
 
 -- A fold over a body, layer by layer

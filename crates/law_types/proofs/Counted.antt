@@ -1,5 +1,5 @@
 -- Lists without repetition, and the constructors of a sort.
-use Rattle.std.proofs.Common.{◌≡◌, ◌≢◌, ℕ, zero, suc, ◌+◌, ◌<◌, ◌≤◌, List, [], ◌∷◌, ◌++◌, ◌⊎◌, inl, inr, map, length, Bool, true, false, true≢false, cond, if◌then◌else◌, is_some, Option, Some, None, slice_get, arith, add-one, refl, sym, ap, ap₂, ◌∙◌, subst}
+use Rattle.std.proofs.Common.{◌≡◌, ◌≢◌, ℕ, zero, suc, ◌+◌, ◌≤◌, List, [], ◌∷◌, ◌++◌, ◌⊎◌, inl, inr, map, length, Bool, true, false, true≢false, cond, if◌then◌else◌, is_some, Some, slice_get, arith, refl, sym, ap, ◌∙◌, subst}
 use Rattle.std.specs.List.{position_from}
 use Rattle.law_sig.specs.Lists.{In, Each, AreDistinct}
 use Rattle.law_sig.specs.Lists.In.{here, there}

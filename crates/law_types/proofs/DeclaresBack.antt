@@ -1,38 +1,34 @@
 -- The lines of a signature declare what the signature does.
-use Rattle.std.proofs.Common.{◌≡◌, ℕ, zero, suc, ◌+◌, ◌<◌, ◌≤◌, List, [], ◌∷◌, ◌++◌, map, length, Option, Some, None, slice_get, slice_index_or, option_map, unwrap_or, rules, arith, append_assoc, refl, sym, ap, ap₂, ◌∙◌, subst}
-use Rattle.std.proofs.lemmas.List.{length-map, map-append}
-use Rattle.std.proofs.lemmas.Option.{slice_get_within}
-use Rattle.law_sig.specs.Lists.{In, Each, AreDistinct}
+use Rattle.std.proofs.Common.{◌≡◌, ℕ, suc, ◌+◌, ◌<◌, List, [], ◌∷◌, ◌++◌, map, length, Option, Some, None, slice_get, slice_index_or, option_map, unwrap_or, rules, arith, append_assoc, refl, sym, ap, ap₂, ◌∙◌}
+use Rattle.std.proofs.lemmas.List.{map-append}
+use Rattle.law_sig.specs.Lists.{In, Each}
 use Rattle.law_sig.specs.Lists.In.{here, there}
 use Rattle.law_sig.specs.Trees.{joined}
 use Rattle.law_sig.specs.Tests.{first_of}
-use Rattle.law_sig.specs.Signature.{symbol_at, args_of, constructors, vars_at, width_at, weight_at}
-use Rattle.law_sig.specs.WellFormed.{IsDeclared, IsSymbol, IsWellFormed}
+use Rattle.law_sig.specs.Signature.{symbol_at, args_of, constructors}
+use Rattle.law_sig.specs.WellFormed.{IsDeclared, IsWellFormed}
 use Rattle.law_sig.specs.declared.tree.SortId.{SortId}
 use Rattle.law_sig.specs.declared.tree.SymId.{SymId}
-use Rattle.law_sig.specs.declared.parts.Con.{Con}
-use Rattle.law_sig.specs.declared.parts.Fun.{Fun}
 use Rattle.law_sig.specs.declared.parts.Sym.{Sym}
 use Rattle.law_sig.specs.declared.parts.Sym.TheVariants as sym
 use Rattle.law_sig.specs.declared.parts.SigParts.{SigParts}
-use Rattle.law_laws.proofs.BodyFacts.{some_is, none_is}
+use Rattle.law_laws.proofs.BodyFacts.{some_is}
 use Rattle.law_laws.proofs.Sorts.{same_sort_is}
 use Rattle.law_read.specs.declared.raw.RawLine.{RawLine}
 use Rattle.law_types.specs.Names.{number_of}
 use Rattle.law_types.specs.Naming.{sort_name, symbol_name}
-use Rattle.law_types.specs.Declarations.{sort_id, whole}
-use Rattle.law_types.specs.Stated.{stated_symbols}
-use Rattle.law_types.specs.Typed.{Version, arg_names, sort_ids, functions_from, AreNumbered}
+use Rattle.law_types.specs.Declarations.{sort_id}
+use Rattle.law_types.specs.Typed.{Version, arg_names, functions_from}
 use Rattle.law_types.specs.declared.whole.Whole.{Whole}
 use Rattle.law_types.proofs.TreeOfFacts.{number_again}
-use Rattle.law_types.proofs.SideFacts.{Declares, headed}
+use Rattle.law_types.proofs.SideFacts.{headed}
 use Rattle.law_types.proofs.TermSound.{sort_id_is}
-use Rattle.law_types.proofs.Laid.{ConRow, SortRow, FunRow, funs_then, rules_then}
+use Rattle.law_types.proofs.Laid.{ConRow, FunRow}
 use Rattle.law_types.proofs.Gathered.{per_con}
-use Rattle.law_types.proofs.Told.{con_sym, con_syms, fun_sym, fun_syms}
-use Rattle.law_types.proofs.Blocks.{sort_no, sym_no, nums, first_nums}
-use Rattle.law_types.proofs.Counted.{IsConAt, cons_of}
-use Rattle.law_types.proofs.LaidBack.{con_row, sort_row, FunOf, RowsOf}
+use Rattle.law_types.proofs.Told.{con_sym, con_syms, fun_syms}
+use Rattle.law_types.proofs.Blocks.{sort_no, nums, first_nums}
+use Rattle.law_types.proofs.Counted.{cons_of}
+use Rattle.law_types.proofs.LaidBack.{con_row, sort_row, RowsOf}
 
 -- A list by its places
 

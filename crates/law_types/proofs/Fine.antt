@@ -1,17 +1,15 @@
 -- The lines of sorts, constructors and functions of a signature show no fault.
 use Rattle.std.proofs.Common.{◌≡◌, ◌≢◌, ℕ, zero, suc, ◌+◌, ◌-◌, ◌<◌, ◌≤◌, ◌^◌, List, [], ◌∷◌, ◌++◌, ◌⊎◌, inl, inr, map, length, Bool, true, false, true≢false, not, ◌&&◌, ◌||◌, ◌==◌, nat_lt, nat_le, le-leb, is_some, Option, Some, None, slice_get, slice_index_or, rules, arith, append_assoc, refl, sym, ap, ap₂, ◌∙◌, subst}
 use Rattle.std.specs.List.{list_all}
-use Rattle.std.specs.Option.{option_or}
 use Rattle.std.proofs.lemmas.Option.{slice_get_within, slice_get-get_or}
-use Rattle.law_sig.specs.Lists.{In, Each, AreDistinct}
+use Rattle.law_sig.specs.Lists.{In, Each}
 use Rattle.law_sig.specs.Lists.In.{here, there}
 use Rattle.law_sig.specs.Trees.{same_sort}
-use Rattle.law_sig.specs.Signature.{symbol_at, args_of, result_of, constructors, constructors_from, vars_at, width_at, weight_at}
-use Rattle.law_sig.specs.WellFormed.{IsBetween, IsDeclared, IsBody, IsCase, AreCases, FitsPlace, IsSymbol, IsWellFormed, is_function}
+use Rattle.law_sig.specs.Signature.{symbol_at, args_of, constructors, constructors_from, vars_at, width_at, weight_at}
+use Rattle.law_sig.specs.WellFormed.{IsBetween, IsDeclared, IsBody, IsCase, AreCases, FitsPlace, IsWellFormed}
 use Rattle.law_sig.specs.declared.tree.SortId.{SortId}
 use Rattle.law_sig.specs.declared.tree.SymId.{SymId}
 use Rattle.law_sig.specs.declared.tree.Body.{Body}
-use Rattle.law_sig.specs.declared.parts.Con.{Con}
 use Rattle.law_sig.specs.declared.parts.Fun.{Fun}
 use Rattle.law_sig.specs.declared.parts.Sym.{Sym}
 use Rattle.law_sig.specs.declared.parts.Sym.TheVariants as sym
@@ -19,30 +17,27 @@ use Rattle.law_sig.specs.declared.parts.SigParts.{SigParts}
 use Rattle.law_laws.proofs.BodyFacts.{some_is, none_is}
 use Rattle.law_laws.proofs.ListFacts.{in_left, in_right, in_none, in_split, in_map}
 use Rattle.law_laws.proofs.Sorts.{same_sort_itself}
-use Rattle.law_read.specs.declared.raw.RawTerm.{RawTerm}
 use Rattle.law_read.specs.declared.raw.RawLine.{RawLine}
 use Rattle.law_types.specs.Names.{number_of, is_below, stands_before}
 use Rattle.law_types.specs.Naming.{sort_name, symbol_name, named_body}
 use Rattle.law_types.specs.Declarations.{has_value}
 use Rattle.law_types.specs.TermFaults.{fault_if, term_fault, wanted_of}
 use Rattle.law_types.specs.LineFaults.{after_sort, after_symbol, after_match, after_case, owner, own_symbol, sort_given, body_fault, case_names, is_case, has_case, match_faults, sort_at, wrong_case, matched, symbol_case_faults, case_faults, out_of, sort_faults, unknown_sort, unknown_sorts, name_faults, con_faults, fun_faults, line_fault, seen_after}
-use Rattle.law_types.specs.Typed.{Version, FitsVersion, arg_names, functions_from}
+use Rattle.law_types.specs.Typed.{Version, arg_names, functions_from}
 use Rattle.law_types.specs.Typed.Version.{first, second, third}
-use Rattle.law_types.specs.declared.errors.TypeKind.{TypeKind}
 use Rattle.law_types.specs.declared.errors.TypeKind.TheVariants as kind
 use Rattle.law_types.specs.declared.seen.Seen.{Seen}
 use Rattle.law_types.specs.declared.whole.Whole.{Whole}
 use Rattle.law_types.proofs.NumberFacts.{stands_at}
 use Rattle.law_types.proofs.TreeOfFacts.{number_again}
-use Rattle.law_types.proofs.SideFacts.{Declares, headed, headed_args, headed_result, in_text}
-use Rattle.law_types.proofs.BodySound.{part_of}
+use Rattle.law_types.proofs.SideFacts.{Declares, headed, in_text}
 use Rattle.law_types.proofs.BodyComplete.{both_none, no_fault, body_passes}
-use Rattle.law_types.proofs.Laid.{ConRow, SortRow, CaseRow, Rules, FunRow, con_line, sort_line, fun_line, cons_then, sorts_then, cases_then, rules_then, funs_then}
+use Rattle.law_types.proofs.Laid.{ConRow, CaseRow, Rules, FunRow, con_line, sort_line, fun_line, cons_then, sorts_then, cases_then, rules_then, funs_then}
 use Rattle.law_types.proofs.Laid.Rules.{single, matching}
 use Rattle.law_types.proofs.Passed.{NoFaults, cons_seen, sorts_seen, cases_seen, rules_seen, funs_seen}
 use Rattle.law_types.proofs.Blocks.{sort_no, nums}
-use Rattle.law_types.proofs.Counted.{in_numbered, no_longer, cons_headed, IsConAt, cons_of}
-use Rattle.law_types.proofs.RulesSound.{scope_at, formed_at, IsAt, con_names, names_are}
+use Rattle.law_types.proofs.Counted.{in_numbered, no_longer, cons_headed, cons_of}
+use Rattle.law_types.proofs.RulesSound.{scope_at, formed_at, con_names, names_are}
 use Rattle.law_types.proofs.Fresh.{rules_symbols}
 use Rattle.law_types.proofs.SymbolsSound.{no_cases}
 use Rattle.law_types.proofs.HeightComplete.{low_has_value, value_low}

@@ -1,19 +1,19 @@
 -- Names that don't stand before their own line are distinct.
-use Rattle.std.proofs.Common.{◌≡◌, ◌≢◌, ℕ, zero, suc, ◌+◌, ◌<◌, ◌≤◌, List, [], ◌∷◌, ◌++◌, map, length, Bool, true, false, true≢false, cond, nat_lt, nat_le, Option, Some, None, slice_get, rules, arith, append_assoc, refl, sym, ap, ◌∙◌, subst}
+use Rattle.std.proofs.Common.{◌≡◌, ◌≢◌, ℕ, zero, suc, ◌+◌, ◌<◌, ◌≤◌, List, [], ◌∷◌, ◌++◌, map, length, Bool, true, false, true≢false, cond, nat_lt, nat_le, Some, slice_get, rules, arith, append_assoc, refl, sym, ap, ◌∙◌, subst}
 use Rattle.std.specs.List.{position_from}
 use Rattle.law_sig.specs.Lists.{Each, AreDistinct}
 use Rattle.law_laws.proofs.BodyFacts.{some_is, none_is}
 use Rattle.law_read.specs.declared.raw.RawLine.{RawLine}
-use Rattle.law_types.specs.Names.{same_name, number_of, is_below, stands_before}
+use Rattle.law_types.specs.Names.{same_name, is_below, stands_before}
 use Rattle.law_types.specs.LineFaults.{after_sort, after_symbol, after_match, after_case}
 use Rattle.law_types.specs.Typed.{Version}
 use Rattle.law_types.specs.declared.seen.Seen.{Seen}
 use Rattle.law_types.specs.declared.whole.Whole.{Whole}
 use Rattle.law_types.proofs.NameTable.{same_itself}
-use Rattle.law_types.proofs.Laid.{ConRow, SortRow, CaseRow, Rules, FunRow, funs_then}
+use Rattle.law_types.proofs.Laid.{ConRow, SortRow, CaseRow, Rules, FunRow}
 use Rattle.law_types.proofs.Laid.Rules.{single, matching}
 use Rattle.law_types.proofs.Gathered.{per_con}
-use Rattle.law_types.proofs.Passed.{SortGood, NameGood, ConGood, FunGood, ConsGood, SortsGood, FunsGood, cons_seen, sorts_seen, cases_seen, rules_seen, funs_seen}
+use Rattle.law_types.proofs.Passed.{ConsGood, SortsGood, FunsGood, cons_seen, sorts_seen, cases_seen, rules_seen}
 
 -- these names stand at places from k on, below a limit, and none stands before its place
 abbrev pub FreshFrom : ℕ → List (List ℕ) → ℕ → List (List ℕ) → Type 0

@@ -1,22 +1,14 @@
 -- What the lines of a text in its parts give, part by part.
-use Rattle.std.proofs.Common.{◌≡◌, ℕ, zero, suc, ◌-◌, List, [], ◌∷◌, ◌++◌, map, append_assoc, append-nil, Option, Some, None, slice_get, refl, sym, ap, ap₂, ◌∙◌, arith}
+use Rattle.std.proofs.Common.{◌≡◌, ℕ, List, [], ◌∷◌, ◌++◌, map, append_assoc, append-nil, Option, Some, None, refl, sym, ap, ap₂, ◌∙◌}
 use Rattle.law_sig.specs.Lists.{Each}
-use Rattle.law_sig.specs.declared.tree.SortId.{SortId}
-use Rattle.law_sig.specs.declared.tree.SymId.{SymId}
-use Rattle.law_sig.specs.declared.tree.Tree.{Tree}
-use Rattle.law_sig.specs.declared.parts.Sym.{Sym}
-use Rattle.law_sig.specs.declared.parts.Sym.TheVariants as sym
-use Rattle.law_sig.specs.declared.parts.Equation.{Equation}
-use Rattle.law_laws.proofs.ListFacts.{each_all, each_map}
+use Rattle.law_laws.proofs.ListFacts.{each_all}
 use Rattle.law_read.specs.declared.raw.RawTerm.{RawTerm}
 use Rattle.law_read.specs.declared.raw.RawLine.{RawLine}
 use Rattle.law_read.specs.declared.raw.RawLine.TheVariants as line
-use Rattle.law_types.specs.Declarations.{sort_id, sort_in, symbol_in, added, sort_names, symbol_names, gathered, vars_in, width_in, vars_of, width_of}
-use Rattle.law_types.specs.Stated.{short, symbol_id, stated_tree, stated_place, stated_bodies, stated_symbols, size_in, budget_in, pairs_in, weight_of, explored_of, equation_of, stated_values, stated_pools, stated_rule}
+use Rattle.law_types.specs.Declarations.{sort_in, symbol_in, added, sort_names, symbol_names, gathered}
 use Rattle.law_types.specs.Typed.{Version}
 use Rattle.law_types.specs.Typed.Version.{first, second, third}
-use Rattle.law_types.specs.declared.whole.Whole.{Whole}
-use Rattle.law_types.proofs.Laid.{ConRow, SortRow, CaseRow, Rules, FunRow, SidesRow, ValuesRow, PoolRows, Layout, con_line, sort_line, fun_line, cons_then, sorts_then, cases_then, rules_then, funs_then, background_then, values_then, pools_then, pool_lines, rule_line, start_then, tail_lines, declared_lines, layout_lines, FitsSort, FitsWeight, FitsCon, FitsFun, FitsSortRow}
+use Rattle.law_types.proofs.Laid.{ConRow, SortRow, CaseRow, Rules, FunRow, SidesRow, ValuesRow, PoolRows, Layout, con_line, sort_line, fun_line, cons_then, sorts_then, cases_then, rules_then, funs_then, background_then, values_then, pools_then, pool_lines, rule_line, start_then, tail_lines, declared_lines, layout_lines}
 use Rattle.law_types.proofs.Laid.Rules.{single, matching}
 use Rattle.law_types.proofs.Laid.PoolRows.{given, seeded}
 

@@ -1,10 +1,10 @@
 -- A sort that has a value counts as having one: it has one no higher than the number of sorts.
-use Rattle.std.proofs.Common.{◌≡◌, ℕ, zero, suc, ◌+◌, ◌-◌, ◌<◌, ◌≤◌, List, [], ◌∷◌, map, length, Bool, true, false, true≢false, not, ◌&&◌, ◌||◌, nat_lt, Option, Some, None, slice_get, IsTrue, ◌⊎◌, inl, inr, eq-or-lt_of_le, rules, arith, refl, sym, ap, ap₂, ◌∙◌, subst}
+use Rattle.std.proofs.Common.{◌≡◌, ℕ, zero, suc, ◌+◌, ◌-◌, ◌<◌, ◌≤◌, List, [], ◌∷◌, map, length, Bool, true, false, true≢false, not, ◌&&◌, ◌||◌, nat_lt, Option, Some, slice_get, ◌⊎◌, inl, inr, eq-or-lt_of_le, rules, arith, refl, sym, ap, ap₂, ◌∙◌, subst}
 use Rattle.std.specs.List.{list_any, list_all}
 use Rattle.law_sig.specs.Lists.{Each}
 use Rattle.law_sig.specs.Trees.{same_sort}
 use Rattle.law_sig.specs.Signature.{symbol_at, args_of, result_of, sort_of}
-use Rattle.law_sig.specs.WellFormed.{IsDeclared, IsSymbol, IsValueOf, value_step, is_constructor, makes_from, is_within_height}
+use Rattle.law_sig.specs.WellFormed.{value_step, is_constructor, makes_from, is_within_height}
 use Rattle.law_sig.specs.declared.tree.SortId.{SortId}
 use Rattle.law_sig.specs.declared.tree.SymId.{SymId}
 use Rattle.law_sig.specs.declared.tree.Tree.{Tree}
@@ -15,11 +15,10 @@ use Rattle.law_sig.specs.declared.parts.Sym.{Sym}
 use Rattle.law_sig.specs.declared.parts.Sym.TheVariants as sym
 use Rattle.law_sig.specs.declared.parts.SigParts.{SigParts}
 use Rattle.law_laws.proofs.TreeFacts.{tree_induct, fold-Var, fold-App}
-use Rattle.law_laws.proofs.BodyFacts.{some_is, none_is}
 use Rattle.law_laws.proofs.Sorts.{HaveSorts, sorted_app, same_sort_itself, both_true}
 use Rattle.law_types.specs.Declarations.{is_low, has_value}
 use Rattle.law_types.specs.declared.whole.Whole.{Whole}
-use Rattle.law_types.proofs.SideFacts.{Declares, headed, in_text}
+use Rattle.law_types.proofs.SideFacts.{Declares, in_text}
 use Rattle.law_types.proofs.StableFacts.{SameAt, later_same}
 use Rattle.law_types.proofs.HeightSound.{any_found, any_here}
 

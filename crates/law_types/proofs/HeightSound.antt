@@ -1,9 +1,9 @@
 -- A sort that counts as having a value has one, and one that is low is within the height.
-use Rattle.std.proofs.Common.{◌≡◌, ℕ, zero, suc, ◌+◌, ◌<◌, ◌≤◌, List, [], ◌∷◌, map, length, Bool, true, false, true≢false, not, ◌&&◌, ◌||◌, nat_lt, Option, Some, None, slice_get, rules, arith, refl, sym, ap, ap₂, ◌∙◌, subst}
+use Rattle.std.proofs.Common.{◌≡◌, ℕ, zero, suc, List, [], ◌∷◌, map, length, Bool, true, false, true≢false, not, ◌&&◌, ◌||◌, nat_lt, Some, slice_get, refl, sym, ap, ap₂, ◌∙◌}
 use Rattle.std.specs.List.{list_any, list_all}
 use Rattle.law_sig.specs.Lists.{Each}
 use Rattle.law_sig.specs.Trees.{same_sort}
-use Rattle.law_sig.specs.Signature.{symbol_at, args_of, sort_of}
+use Rattle.law_sig.specs.Signature.{symbol_at}
 use Rattle.law_sig.specs.WellFormed.{IsDeclared, IsSymbol, IsValueOf, value_step, is_constructor, makes_from, is_within_height}
 use Rattle.law_sig.specs.declared.tree.SortId.{SortId}
 use Rattle.law_sig.specs.declared.tree.SymId.{SymId}

@@ -5,10 +5,8 @@ use Rattle.std.specs.List.{AllByRecursion}
 use Rattle.law_sig.specs.Lists.{Each}
 use Rattle.law_read.specs.Grammar.{Grammar, Spells}
 use Rattle.law_read.specs.Grammar.Grammar.{never, empty, one, series, either, many}
-use Rattle.law_read.specs.Order.{order, shape_of}
-use Rattle.law_read.specs.Signature.{IsRawSig}
+use Rattle.law_read.specs.Order.{shape_of}
 use Rattle.law_read.specs.declared.shape.Shape.{Shape}
-use Rattle.law_read.specs.declared.shape.Shape.TheVariants as shape
 use Rattle.law_read.specs.declared.raw.RawTerm.{RawTerm}
 use Rattle.law_read.specs.declared.raw.RawLine.{RawLine}
 use Rattle.law_read.specs.declared.raw.RawLine.TheVariants as line

@@ -5,7 +5,7 @@ use Rattle.law_sig.specs.Lists.{In, Each, AreDistinct}
 use Rattle.law_sig.specs.Lists.In.{here, there}
 use Rattle.law_sig.specs.Trees.{joined}
 use Rattle.law_sig.specs.Signature.{symbol_at, constructors, vars_at, width_at, weight_at}
-use Rattle.law_sig.specs.WellFormed.{AreCases, FitsPlace, IsBody, IsSymbol, IsWellFormed}
+use Rattle.law_sig.specs.WellFormed.{AreCases, FitsPlace, IsBody, IsWellFormed}
 use Rattle.law_sig.specs.declared.tree.SortId.{SortId}
 use Rattle.law_sig.specs.declared.tree.SymId.{SymId}
 use Rattle.law_sig.specs.declared.tree.Body.{Body}
@@ -13,7 +13,7 @@ use Rattle.law_sig.specs.declared.parts.Fun.{Fun}
 use Rattle.law_sig.specs.declared.parts.Sym.{Sym}
 use Rattle.law_sig.specs.declared.parts.Sym.TheVariants as sym
 use Rattle.law_sig.specs.declared.parts.SigParts.{SigParts}
-use Rattle.law_laws.proofs.BodyFacts.{some_is, none_is}
+use Rattle.law_laws.proofs.BodyFacts.{some_is}
 use Rattle.law_laws.proofs.ListFacts.{in_none, in_rest}
 use Rattle.law_read.specs.declared.raw.RawTerm.{RawTerm}
 use Rattle.law_read.specs.declared.raw.RawLine.{RawLine}
@@ -24,9 +24,9 @@ use Rattle.law_types.specs.Typed.{Version, FitsVersion, arg_names, sort_block, A
 use Rattle.law_types.specs.Typed as typed
 use Rattle.law_types.specs.Typed.Version.{first, second, third}
 use Rattle.law_types.proofs.TreeOfFacts.{number_again}
-use Rattle.law_types.proofs.Laid.{ConRow, SortRow, CaseRow, Rules, FunRow, con_line, sort_line, fun_line, cons_then, sorts_then, rules_then, funs_then, FitsWeight, FitsFun}
+use Rattle.law_types.proofs.Laid.{ConRow, SortRow, CaseRow, Rules, FunRow, con_line, sort_line, fun_line, cons_then, sorts_then, funs_then, FitsWeight, FitsFun}
 use Rattle.law_types.proofs.Laid.Rules.{single, matching}
-use Rattle.law_types.proofs.Counted.{IsConAt, cons_of, cons_distinct, map_distinct, pigeons}
+use Rattle.law_types.proofs.Counted.{cons_of, cons_distinct, map_distinct, pigeons}
 use Rattle.law_types.proofs.RulesSound.{case_lines, con_names, rule_lines, rules_split}
 
 -- Sorts and constructors

@@ -1,9 +1,9 @@
 -- Each text in the order of the grammar has its parts.
-use Rattle.std.proofs.Common.{◌≡◌, ℕ, List, [], ◌∷◌, ◌++◌, ◌⊎◌, inl, inr, map, append-nil, refl, sym, ap, ◌∙◌, subst}
+use Rattle.std.proofs.Common.{◌≡◌, ℕ, List, [], ◌∷◌, ◌⊎◌, inl, inr, append-nil, refl, sym, ap, ◌∙◌, subst}
 use Rattle.law_sig.specs.Lists.{Each}
-use Rattle.law_read.specs.Grammar.{Grammar, Spells, some}
-use Rattle.law_read.specs.Grammar.Grammar.{one, series, either, many}
-use Rattle.law_read.specs.Order.{order, version, lines_then, sorts, functions, declarations, given_pools, shape_of}
+use Rattle.law_read.specs.Grammar.{Grammar}
+use Rattle.law_read.specs.Grammar.Grammar.{one, series, either}
+use Rattle.law_read.specs.Order.{order, version, functions, declarations, given_pools, shape_of}
 use Rattle.law_read.specs.Signature.{IsRawSig}
 use Rattle.law_read.specs.declared.shape.Shape.{Shape}
 use Rattle.law_read.specs.declared.shape.Shape.TheVariants as shape
@@ -12,7 +12,7 @@ use Rattle.law_read.specs.declared.raw.RawLine.{RawLine}
 use Rattle.law_read.specs.declared.raw.RawLine.TheVariants as line
 use Rattle.law_types.specs.Typed.{Version}
 use Rattle.law_types.specs.Typed.Version.{first, second, third}
-use Rattle.law_types.proofs.Laid.{ConRow, SortRow, CaseRow, Rules, FunRow, SidesRow, ValuesRow, PoolRows, Layout, con_line, sort_line, fun_line, cons_then, sorts_then, cases_then, rules_then, funs_then, background_then, values_then, pools_then, pool_lines, rule_line, tail_lines, declared_lines, layout_lines, FitsSort, FitsWeight, FitsCon, FitsFun, FitsSortRow, HasPools, HasSorts, IsLayout, OneLine, Then, Many, From, reads}
+use Rattle.law_types.proofs.Laid.{ConRow, SortRow, CaseRow, Rules, FunRow, SidesRow, ValuesRow, PoolRows, Layout, con_line, sort_line, fun_line, cons_then, sorts_then, cases_then, rules_then, funs_then, background_then, values_then, pools_then, pool_lines, rule_line, FitsSort, FitsCon, FitsFun, FitsSortRow, HasPools, HasSorts, IsLayout, OneLine, Then, Many, From, reads}
 use Rattle.law_types.proofs.Laid.Rules.{single, matching}
 use Rattle.law_types.proofs.Laid.PoolRows.{given, seeded}
 use Rattle.law_types.proofs.Laid.Many.{stop, more}

@@ -1,19 +1,17 @@
 -- What is known of each part of a text where no line shows a fault.
-use Rattle.std.proofs.Common.{◌≡◌, ℕ, zero, suc, ◌+◌, ◌-◌, ◌<◌, ◌≤◌, List, [], ◌∷◌, ◌++◌, map, length, Bool, true, false, true≢false, not, ◌&&◌, ◌||◌, ◌==◌, nat_lt, nat_le, eqb-true, leb-true, is_some, Option, Some, None, slice_get, rules, arith, refl, sym, ap, ap₂, ◌∙◌, subst}
-use Rattle.std.specs.List.{list_all}
+use Rattle.std.proofs.Common.{◌≡◌, ℕ, ◌+◌, List, [], ◌∷◌, length, true, false, true≢false, not, nat_le, eqb-true, leb-true, is_some, Option, Some, None, slice_get, arith, refl, sym, ap, ◌∙◌, subst}
 use Rattle.std.specs.Option.{option_or}
 use Rattle.law_sig.specs.Lists.{Each}
 use Rattle.law_sig.specs.WellFormed.{IsBetween}
 use Rattle.law_sig.specs.declared.tree.SortId.{SortId}
-use Rattle.law_laws.proofs.BodyFacts.{some_is, none_is}
+use Rattle.law_laws.proofs.BodyFacts.{none_is}
 use Rattle.law_laws.proofs.Sorts.{both_true}
-use Rattle.law_read.specs.declared.raw.RawTerm.{RawTerm}
 use Rattle.law_read.specs.declared.raw.RawLine.{RawLine}
 use Rattle.law_read.specs.declared.raw.RawLine.TheVariants as line
 use Rattle.law_types.specs.Names.{number_of, stands_before}
 use Rattle.law_types.specs.Declarations.{has_value}
-use Rattle.law_types.specs.TermFaults.{fault_if, mismatch, term_fault, wanted_of}
-use Rattle.law_types.specs.LineFaults.{after_sort, after_symbol, after_match, after_case, after_pool, after_values, nothing_seen, seen_after, out_of, some_too_low, seed_faults, sort_faults, unknown_sort, unknown_sorts, name_faults, con_faults, fun_faults, own_symbol, body_fault, case_names, match_faults, case_faults, explored_faults, background_faults, value_scope, values_count, pool_faults, each_value_fault, is_width, values_faults, line_fault, fault_at, faults_from}
+use Rattle.law_types.specs.TermFaults.{fault_if, mismatch, wanted_of}
+use Rattle.law_types.specs.LineFaults.{after_sort, after_symbol, after_match, after_case, after_pool, after_values, nothing_seen, seen_after, out_of, some_too_low, sort_faults, unknown_sort, unknown_sorts, name_faults, con_faults, fun_faults, own_symbol, body_fault, case_names, match_faults, case_faults, explored_faults, background_faults, values_count, each_value_fault, is_width, values_faults, line_fault, fault_at, faults_from}
 use Rattle.law_types.specs.Typed.{Version}
 use Rattle.law_types.specs.Typed.Version.{first, second, third}
 use Rattle.law_types.specs.declared.errors.TypeErr.{TypeErr}
@@ -22,7 +20,7 @@ use Rattle.law_types.specs.declared.errors.TypeKind.{TypeKind}
 use Rattle.law_types.specs.declared.errors.TypeKind.TheVariants as kind
 use Rattle.law_types.specs.declared.seen.Seen.{Seen}
 use Rattle.law_types.specs.declared.whole.Whole.{Whole}
-use Rattle.law_types.proofs.Laid.{ConRow, SortRow, CaseRow, Rules, FunRow, SidesRow, ValuesRow, PoolRows, Layout, con_line, sort_line, fun_line, cons_then, sorts_then, cases_then, rules_then, funs_then, background_then, values_then, pools_then, pool_lines, rule_line, start_then, tail_lines, declared_lines, layout_lines, FitsSort, FitsWeight, FitsCon, FitsFun, FitsSortRow}
+use Rattle.law_types.proofs.Laid.{ConRow, SortRow, CaseRow, Rules, FunRow, SidesRow, ValuesRow, PoolRows, Layout, con_line, sort_line, fun_line, cons_then, sorts_then, cases_then, rules_then, funs_then, background_then, values_then, pools_then, pool_lines, rule_line, start_then, tail_lines, declared_lines, layout_lines, FitsSort, FitsCon, FitsFun, FitsSortRow}
 use Rattle.law_types.proofs.Laid.Rules.{single, matching}
 use Rattle.law_types.proofs.Laid.PoolRows.{given, seeded}
 use Rattle.law_types.proofs.TermSound.{fault_none, neither, not_false, wanted_is}

@@ -1,5 +1,5 @@
 -- A function whose lines show no fault: its bodies are well-formed, and its rules are written so.
-use Rattle.std.proofs.Common.{◌≡◌, ◌≢◌, ℕ, zero, suc, ◌+◌, ◌<◌, ◌≤◌, List, [], ◌∷◌, ◌++◌, map, length, Bool, true, false, true≢false, not, ◌&&◌, ◌||◌, ◌==◌, nat_lt, eqb-true, eq-eqb, is_some, Option, Some, None, slice_get, slice_index_or, arith, refl, sym, ap, ap₂, ◌∙◌, subst}
+use Rattle.std.proofs.Common.{◌≡◌, ℕ, zero, suc, ◌+◌, ◌<◌, ◌≤◌, List, [], ◌∷◌, ◌++◌, map, length, Bool, true, false, true≢false, not, ◌&&◌, ◌||◌, nat_lt, eqb-true, eq-eqb, is_some, Option, Some, None, slice_get, arith, refl, sym, ap, ap₂, ◌∙◌, subst}
 use Rattle.std.specs.List.{list_all}
 use Rattle.std.proofs.lemmas.List.{length-map}
 use Rattle.std.proofs.lemmas.Option.{slice_get_within, get_or_from_slice_get}
@@ -26,10 +26,9 @@ use Rattle.law_read.specs.declared.raw.RawLine.TheVariants as line
 use Rattle.law_types.specs.Names.{number_of}
 use Rattle.law_types.specs.Naming.{symbol_name, named_body}
 use Rattle.law_types.specs.TermFaults.{fault_if, term_fault, wanted_of}
-use Rattle.law_types.specs.LineFaults.{after_case, owner, own_symbol, sort_given, body_scope, body_fault, case_names, is_case, has_case, match_faults, sort_at, wrong_case, matched, symbol_case_faults, case_faults}
+use Rattle.law_types.specs.LineFaults.{after_case, owner, own_symbol, sort_given, body_fault, case_names, is_case, has_case, match_faults, sort_at, wrong_case, matched, symbol_case_faults, case_faults}
 use Rattle.law_types.specs.Stated.{short, stated_body, case_body, case_line, case_number, stated_case, stated_cases, stated_place, stated_bodies}
 use Rattle.law_types.specs.Typed.{AreRules, AreCaseLines}
-use Rattle.law_types.specs.declared.errors.TypeKind.{TypeKind}
 use Rattle.law_types.specs.declared.errors.TypeKind.TheVariants as kind
 use Rattle.law_types.specs.declared.scope.Scope.{Scope}
 use Rattle.law_types.specs.declared.scope.Standing.TheVariants as standing
@@ -39,13 +38,13 @@ use Rattle.law_types.proofs.NumberFacts.{stands_at, found_at}
 use Rattle.law_types.proofs.TreeOfFacts.{number_again}
 use Rattle.law_types.proofs.SideFacts.{Declares, headed, in_parts}
 use Rattle.law_types.proofs.TermSound.{fault_none, neither, not_false, wanted_is, symbol_named}
-use Rattle.law_types.proofs.BodySound.{BodyStands, body_stands}
+use Rattle.law_types.proofs.BodySound.{body_stands}
 use Rattle.law_types.proofs.Laid.{CaseRow, Rules, cases_then, rules_then}
 use Rattle.law_types.proofs.Laid.Rules.{single, matching}
 use Rattle.law_types.proofs.Passed.{Both, CasesGood, RulesGood}
 use Rattle.law_types.proofs.Spelled.{HasSize, RulesSpelled, body_writable}
 use Rattle.law_types.proofs.States.{short_is}
-use Rattle.law_types.proofs.Counted.{NewFrom, new_distinct, no_longer, map_distinct, IsConAt, cons_of, of_cons, cons_distinct, cons_headed}
+use Rattle.law_types.proofs.Counted.{NewFrom, new_distinct, no_longer, map_distinct, cons_of, of_cons, cons_distinct, cons_headed}
 
 -- Bodies
 

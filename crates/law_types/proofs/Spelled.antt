@@ -1,23 +1,18 @@
 -- What the grammar says of each part of a text.
-use Rattle.std.proofs.Common.{◌≡◌, ℕ, zero, suc, ◌+◌, ◌<◌, ◌≤◌, ◌^◌, max, sum, List, [], ◌∷◌, ◌++◌, map, length, Bool, true, false, true≢false, ◌&&◌, ◌||◌, ◌==◌, nat_le, leb-true, Option, Some, None, IsTrue, rules, arith, refl, sym, ap, ap₂, ◌∙◌, subst}
+use Rattle.std.proofs.Common.{◌≡◌, ℕ, ◌+◌, ◌<◌, ◌≤◌, ◌^◌, max, sum, List, [], ◌∷◌, map, length, Bool, true, false, ◌&&◌, ◌||◌, ◌==◌, nat_le, leb-true, IsTrue, rules, arith, refl, sym, ap, ap₂, ◌∙◌, subst}
 use Rattle.std.specs.List.{list_all, AllByRecursion}
 use Rattle.std.proofs.lemmas.Grind.{common_steps}
-use Rattle.law_sig.specs.Names.{is_letter, is_name_byte, is_word, is_name}
+use Rattle.law_sig.specs.Names.{is_letter, is_name_byte, is_name}
 use Rattle.law_sig.specs.Lists.{Each, total}
 use Rattle.law_sig.specs.Trees.{node_count, nodes_step, depth, depth_step, greatest}
 use Rattle.law_sig.specs.Bodies.{body_nodes, body_nodes_step, body_depth, body_depth_step}
 use Rattle.law_sig.specs.WellFormed.{IsWritable}
-use Rattle.law_sig.specs.declared.tree.SortId.{SortId}
-use Rattle.law_sig.specs.declared.tree.SymId.{SymId}
 use Rattle.law_sig.specs.declared.tree.Tree.{Tree}
-use Rattle.law_sig.specs.declared.tree.Tree.TheVariants.{Var, App}
 use Rattle.law_sig.specs.declared.tree.Body.{Body}
 use Rattle.law_sig.specs.declared.tree.Body.TheOpen as b
-use Rattle.law_sig.specs.declared.tree.Body.TheViews.{out-Body}
 use Rattle.law_sig.specs.declared.parts.SigParts.{SigParts}
 use Rattle.law_laws.proofs.TreeFacts.{tree_induct, fold-Var, fold-App}
 use Rattle.law_laws.proofs.BodyFacts.{body_induct}
-use Rattle.law_laws.proofs.Sorts.{both_true}
 use Rattle.law_read.specs.Terms.{IsTerm, is_name_in, larger, largest}
 use Rattle.law_read.specs.declared.want.Bounds.TheVariants.{Kept}
 use Rattle.law_read.specs.declared.want.Place.{Place}

@@ -1,11 +1,8 @@
 -- A text in its parts, and what it states: the two hang together part by part.
-use Rattle.std.proofs.Common.{◌≡◌, ℕ, zero, suc, ◌+◌, ◌<◌, ◌≤◌, min, List, [], ◌∷◌, ◌++◌, map, length, Option, Some, None, slice_get, rules, arith, refl, sym, ap, ap₂, ◌∙◌, subst}
+use Rattle.std.proofs.Common.{◌≡◌, ℕ, ◌≤◌, List, [], ◌∷◌, ◌++◌, map, Option, Some, None, arith, refl, sym, ap, ap₂, ◌∙◌}
 use Rattle.law_sig.specs.Lists.{Each}
-use Rattle.law_sig.specs.WellFormed.{IsBetween}
 use Rattle.law_sig.specs.declared.parts.Sym.{Sym}
 use Rattle.law_sig.specs.declared.parts.Sym.TheVariants as sym
-use Rattle.law_sig.specs.declared.parts.Equation.{Equation}
-use Rattle.law_sig.specs.declared.parts.PoolRule.{PoolRule}
 use Rattle.law_sig.specs.declared.parts.SigParts.{SigParts}
 use Rattle.law_laws.proofs.BodyFacts.{some_is, none_is}
 use Rattle.law_read.specs.declared.raw.RawLine.{RawLine}
@@ -16,11 +13,10 @@ use Rattle.law_types.specs.Stated.{short, symbol_id, filled, stated_symbols, sta
 use Rattle.law_types.specs.declared.seen.Seen.{Seen}
 use Rattle.law_types.specs.declared.whole.Whole.{Whole}
 use Rattle.law_types.proofs.SideFacts.{Declares, headed}
-use Rattle.law_types.proofs.Laid.{ConRow, SortRow, FunRow, PoolRows, Layout, tail_lines, layout_lines, FitsFun, FitsSortRow, HasPools, HasSorts, IsLayout}
-use Rattle.law_types.proofs.Laid.PoolRows.{given, seeded}
+use Rattle.law_types.proofs.Laid.{ConRow, SortRow, FunRow, Layout, tail_lines, layout_lines, FitsFun, FitsSortRow, HasPools, HasSorts}
 use Rattle.law_types.proofs.Gathered.{per_con, told_sorts, told_names}
 use Rattle.law_types.proofs.Told.{told_vars, told_widths, told_weights, told_explored, told_background, told_size, told_budget, told_pairs, told_pools, told_symbols, stated_sides, stated_pool_rule, con_syms, fun_syms}
-use Rattle.law_types.proofs.Passed.{AllGood, SortGood, ConGood, FunGood, SortsGood, ConsGood, FunsGood, cons_seen, sorts_seen, rules_seen}
+use Rattle.law_types.proofs.Passed.{AllGood, SortsGood, ConsGood, FunsGood, cons_seen, sorts_seen, rules_seen}
 use Rattle.law_types.proofs.Spelled.{AllSpelled}
 
 pub record States (text : Whole) (parts : SigParts) (l : Layout) : Type 0 where

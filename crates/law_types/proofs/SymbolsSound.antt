@@ -1,14 +1,11 @@
 -- The symbols of a text without faults are well-formed, and their lines are written so.
-use Rattle.std.proofs.Common.{◌≡◌, ℕ, zero, suc, ◌+◌, ◌-◌, ◌<◌, ◌≤◌, List, [], ◌∷◌, ◌++◌, map, length, Bool, true, Option, Some, None, slice_get, option_map, unwrap_or, rules, arith, append_assoc, refl, sym, ap, ap₂, ◌∙◌, subst}
+use Rattle.std.proofs.Common.{◌≡◌, ℕ, zero, suc, ◌+◌, ◌≤◌, List, [], ◌∷◌, ◌++◌, map, length, Some, slice_get, option_map, unwrap_or, rules, arith, append_assoc, refl, sym, ap, ap₂, ◌∙◌, subst}
 use Rattle.std.proofs.lemmas.List.{length-map}
 use Rattle.law_sig.specs.Lists.{Each, AreDistinct}
 use Rattle.law_sig.specs.Trees.{joined}
-use Rattle.law_sig.specs.Tests.{first_of}
-use Rattle.law_sig.specs.Signature.{symbol_at, args_of, constructors, weight_at}
+use Rattle.law_sig.specs.Signature.{args_of, constructors}
 use Rattle.law_sig.specs.WellFormed.{IsDeclared, IsSymbol}
-use Rattle.law_sig.specs.declared.tree.SortId.{SortId}
 use Rattle.law_sig.specs.declared.tree.SymId.{SymId}
-use Rattle.law_sig.specs.declared.parts.Fun.{Fun}
 use Rattle.law_sig.specs.declared.parts.Sym.{Sym}
 use Rattle.law_sig.specs.declared.parts.Sym.TheVariants as sym
 use Rattle.law_sig.specs.declared.parts.SigParts.{SigParts}
@@ -25,14 +22,13 @@ use Rattle.law_types.specs.Typed.Version.{first, second, third}
 use Rattle.law_types.specs.declared.seen.Seen.{Seen}
 use Rattle.law_types.specs.declared.whole.Whole.{Whole}
 use Rattle.law_types.proofs.SideFacts.{Declares, headed, in_text}
-use Rattle.law_types.proofs.Laid.{ConRow, SortRow, CaseRow, Rules, FunRow, Layout, fun_line, rules_then, funs_then, tail_lines}
-use Rattle.law_types.proofs.Laid.Rules.{single, matching}
+use Rattle.law_types.proofs.Laid.{ConRow, SortRow, FunRow, fun_line, rules_then, funs_then}
 use Rattle.law_types.proofs.Told.{con_sym, con_syms, fun_sym, fun_syms}
-use Rattle.law_types.proofs.Passed.{Both, ConGood, ConsGood, SortsGood, FunGood, FunsGood, cons_seen, rules_seen}
+use Rattle.law_types.proofs.Passed.{ConsGood, SortsGood, FunGood, FunsGood, cons_seen, rules_seen}
 use Rattle.law_types.proofs.Fresh.{rules_symbols}
 use Rattle.law_types.proofs.Spelled.{ConSpelled, SortSpelled, FunSpelled}
-use Rattle.law_types.proofs.Blocks.{sort_no, sym_no, nums, past, past_all, first_nums, SymAt, ConsAt, SortsAt, FunsAt, RowsAt, BlocksAt, known_sort, known_args, known_named}
-use Rattle.law_types.proofs.RulesSound.{IsAt, fun_at, rule_lines, rules_split, RulesOk, rules_sound}
+use Rattle.law_types.proofs.Blocks.{sort_no, sym_no, nums, past, past_all, first_nums, SymAt, FunsAt, RowsAt, BlocksAt, known_sort, known_args, known_named}
+use Rattle.law_types.proofs.RulesSound.{IsAt, fun_at, rule_lines, rules_split, rules_sound}
 
 -- each symbol from a number on
 abbrev pub EachSym : SigParts → ℕ → List Sym → Type 0

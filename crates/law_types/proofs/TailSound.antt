@@ -1,38 +1,32 @@
 -- Explored names, background and pools without faults are well-formed, and written so.
-use Rattle.std.proofs.Common.{◌≡◌, ℕ, zero, suc, ◌+◌, ◌<◌, ◌≤◌, List, [], ◌∷◌, ◌++◌, map, length, Bool, true, false, true≢false, not, ◌&&◌, ◌||◌, nat_lt, nat_le, is_some, Option, Some, None, slice_get, slice_index_or, rules, arith, add-one, append_assoc, refl, sym, ap, ap₂, ◌∙◌, subst}
-use Rattle.std.specs.Option.{option_or}
+use Rattle.std.proofs.Common.{◌≡◌, ℕ, suc, ◌+◌, ◌<◌, ◌≤◌, List, [], ◌∷◌, ◌++◌, map, length, true, true≢false, not, is_some, Option, Some, None, slice_get, rules, arith, add-one, append_assoc, refl, sym, ap, ap₂, ◌∙◌, subst}
 use Rattle.std.proofs.lemmas.List.{length-map}
 use Rattle.std.proofs.lemmas.Option.{slice_get_within, get_or_from_slice_get}
 use Rattle.law_sig.specs.Lists.{In, Each, AreDistinct}
-use Rattle.law_sig.specs.Lists.In.{here, there}
 use Rattle.law_sig.specs.Trees.{node_count, depth}
 use Rattle.law_sig.specs.Signature.{width_at}
-use Rattle.law_sig.specs.WellFormed.{IsBetween, IsWritable, IsSide, IsBackground, IsValueOf, AreValues, IsPoolFrom, IsPool, AreGiven}
+use Rattle.law_sig.specs.WellFormed.{IsWritable, IsBackground, IsValueOf, IsPoolFrom, IsPool}
 use Rattle.law_sig.specs.declared.tree.SortId.{SortId}
 use Rattle.law_sig.specs.declared.tree.SymId.{SymId}
-use Rattle.law_sig.specs.declared.tree.Tree.{Tree}
-use Rattle.law_sig.specs.declared.parts.Equation.{Equation}
 use Rattle.law_sig.specs.declared.parts.SigParts.{SigParts}
-use Rattle.law_laws.proofs.BodyFacts.{some_is, none_is}
 use Rattle.law_laws.proofs.ListFacts.{of_each}
 use Rattle.law_read.specs.declared.raw.RawTerm.{RawTerm}
 use Rattle.law_read.specs.declared.raw.RawLine.{RawLine}
 use Rattle.law_read.specs.declared.raw.RawLine.TheVariants as line
 use Rattle.law_types.specs.Names.{number_of}
-use Rattle.law_types.specs.Naming.{sort_name, symbol_name, named_term}
-use Rattle.law_types.specs.TermFaults.{fault_if, mismatch, term_fault}
-use Rattle.law_types.specs.LineFaults.{explored_fault, explored_faults, side_scope, value_scope, root_sort, sides_mismatch, background_faults, each_value_fault}
+use Rattle.law_types.specs.Naming.{symbol_name, named_term}
+use Rattle.law_types.specs.TermFaults.{fault_if, term_fault}
+use Rattle.law_types.specs.LineFaults.{explored_fault, explored_faults, side_scope, value_scope, sides_mismatch, each_value_fault}
 use Rattle.law_types.specs.Stated.{symbol_id, stated_tree}
 use Rattle.law_types.specs.Typed.{background_line, values_lines, pools_lines}
-use Rattle.law_types.specs.declared.errors.TypeKind.{TypeKind}
 use Rattle.law_types.specs.declared.errors.TypeKind.TheVariants as kind
 use Rattle.law_types.specs.declared.whole.Whole.{Whole}
 use Rattle.law_types.proofs.NumberFacts.{stands_at}
 use Rattle.law_types.proofs.SideFacts.{Declares}
-use Rattle.law_types.proofs.TermSound.{fault_none, neither, not_false, wanted_is, Stands, stands, sort_named, symbol_named, symbol_id_is}
+use Rattle.law_types.proofs.TermSound.{fault_none, neither, not_false, wanted_is, stands, sort_named, symbol_named, symbol_id_is}
 use Rattle.law_types.proofs.Laid.{SidesRow, ValuesRow, background_then, values_then, pools_then}
 use Rattle.law_types.proofs.Told.{stated_sides, stated_row}
-use Rattle.law_types.proofs.Passed.{SidesGood, RowGood, RowsGood, PoolGood, PoolsGood}
+use Rattle.law_types.proofs.Passed.{SidesGood, RowsGood, PoolsGood}
 use Rattle.law_types.proofs.Spelled.{HasSize, SidesSpelled, RowSpelled, tree_writable}
 use Rattle.law_types.proofs.Counted.{NewFrom, new_distinct, map_distinct}
 

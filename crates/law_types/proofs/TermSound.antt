@@ -1,11 +1,11 @@
 -- What a written term without faults states: it is well-sorted, and written so.
-use Rattle.std.proofs.Common.{◌≡◌, ℕ, zero, suc, ◌+◌, ◌<◌, ◌≤◌, List, [], ◌∷◌, map, length, Bool, true, false, true≢false, not, ◌&&◌, ◌==◌, nat_lt, eqb-true, rules, arith, Option, Some, None, slice_get, slice_index_or, unwrap_or, IsTrue, refl, sym, ap, ap₂, ◌∙◌, subst}
+use Rattle.std.proofs.Common.{◌≡◌, ℕ, zero, suc, ◌<◌, List, [], ◌∷◌, map, length, Bool, true, false, true≢false, not, ◌&&◌, ◌==◌, nat_lt, eqb-true, rules, arith, Option, Some, None, slice_get, slice_index_or, unwrap_or, IsTrue, refl, sym, ap, ap₂, ◌∙◌, subst}
 use Rattle.std.specs.List.{list_all}
 use Rattle.std.specs.Option.{option_or}
 use Rattle.std.proofs.lemmas.List.{length-map}
-use Rattle.std.proofs.lemmas.Option.{slice_get-get_or, slice_get_within, get_or_from_slice_get}
+use Rattle.std.proofs.lemmas.Option.{slice_get_within, get_or_from_slice_get}
 use Rattle.law_sig.specs.Lists.{Each}
-use Rattle.law_sig.specs.Signature.{args_of, result_of, sort_of, is_declared_sort, symbol_at}
+use Rattle.law_sig.specs.Signature.{args_of, result_of, sort_of, is_declared_sort}
 use Rattle.law_sig.specs.WellFormed.{vars_step, value_step, is_function, is_constructor}
 use Rattle.law_sig.specs.declared.tree.SortId.{SortId}
 use Rattle.law_sig.specs.declared.tree.SymId.{SymId}
@@ -16,13 +16,13 @@ use Rattle.law_sig.specs.declared.parts.Sym.{Sym}
 use Rattle.law_sig.specs.declared.parts.Sym.TheVariants as sym
 use Rattle.law_sig.specs.declared.parts.SigParts.{SigParts}
 use Rattle.law_laws.proofs.TreeFacts.{fold-Var, fold-App}
-use Rattle.law_laws.proofs.BodyFacts.{some_is, none_is}
+use Rattle.law_laws.proofs.BodyFacts.{none_is}
 use Rattle.law_laws.proofs.Sorts.{HaveSorts, app_sorted, var_sorted, same_sort_is}
 use Rattle.law_read.specs.declared.raw.RawHead.{RawHead}
 use Rattle.law_read.specs.declared.raw.RawHead.TheVariants as head
 use Rattle.law_read.specs.declared.raw.RawTerm.{RawTerm}
 use Rattle.law_read.specs.declared.raw.RawTerm.TheOpen.{RawTerm-F}
-use Rattle.law_read.specs.declared.raw.RawTerm.TheViews.{out-RawTerm, out-roll-RawTerm}
+use Rattle.law_read.specs.declared.raw.RawTerm.TheViews.{out-roll-RawTerm}
 use Rattle.law_read.specs.declared.raw.RawTerm.TheFolds.{fold-roll-RawTerm}
 use Rattle.law_types.specs.Names.{number_of}
 use Rattle.law_types.specs.Naming.{sort_name, symbol_name, raw_term, named_term, name_step}

@@ -1,19 +1,18 @@
 -- The lines of a signature show no fault.
-use Rattle.std.proofs.Common.{◌≡◌, ◌≢◌, ℕ, zero, suc, ◌+◌, ◌<◌, ◌≤◌, List, [], ◌∷◌, ◌++◌, ◌⊎◌, inl, inr, map, length, Bool, true, false, true≢false, not, ◌&&◌, ◌||◌, ◌==◌, nat_lt, nat_le, eq-eqb, is_some, Option, Some, None, Err, slice_get, slice_index_or, option_map, rules, arith, add-one, append_assoc, refl, sym, ap, ap₂, ◌∙◌, subst}
+use Rattle.std.proofs.Common.{◌≡◌, ◌≢◌, ℕ, zero, suc, ◌+◌, ◌<◌, ◌≤◌, List, [], ◌∷◌, ◌++◌, ◌⊎◌, inl, inr, map, length, Bool, true, false, not, ◌&&◌, ◌||◌, nat_le, eq-eqb, is_some, Option, Some, None, Err, slice_get, slice_index_or, option_map, rules, arith, add-one, append_assoc, refl, sym, ap, ap₂, ◌∙◌, subst}
 use Rattle.std.specs.Option.{option_or}
 use Rattle.std.proofs.lemmas.List.{length-map, map-append}
 use Rattle.std.proofs.lemmas.Option.{slice_get_within, slice_get-get_or}
 use Rattle.law_sig.specs.Lists.{In, Each, AreDistinct}
 use Rattle.law_sig.specs.Lists.In.{here, there}
-use Rattle.law_sig.specs.Trees.{joined, same_sort, node_count, depth}
+use Rattle.law_sig.specs.Trees.{joined, node_count, depth}
 use Rattle.law_sig.specs.Tests.{first_of}
-use Rattle.law_sig.specs.Signature.{symbol_at, result_of, constructors, vars_at, width_at, sort_of}
-use Rattle.law_sig.specs.WellFormed.{IsBetween, IsDeclared, IsWritable, IsSide, IsBackground, IsValueOf, AreValues, IsPoolFrom, IsPool, IsPoolRule, IsWellFormed}
+use Rattle.law_sig.specs.Signature.{symbol_at, constructors, vars_at, width_at, sort_of}
+use Rattle.law_sig.specs.WellFormed.{IsBetween, IsDeclared, IsWritable, IsBackground, IsValueOf, AreValues, IsPoolFrom, IsPool, IsPoolRule, IsWellFormed}
 use Rattle.law_sig.specs.declared.tree.SortId.{SortId}
 use Rattle.law_sig.specs.declared.tree.SymId.{SymId}
 use Rattle.law_sig.specs.declared.tree.Tree.{Tree}
 use Rattle.law_sig.specs.declared.tree.Tree.TheVariants.{Var, App}
-use Rattle.law_sig.specs.declared.tree.Tree.TheFolds.{fold-Tree}
 use Rattle.law_sig.specs.declared.parts.Sym.{Sym}
 use Rattle.law_sig.specs.declared.parts.Equation.{Equation}
 use Rattle.law_sig.specs.declared.parts.PoolRule.{PoolRule}
@@ -21,7 +20,7 @@ use Rattle.law_sig.specs.declared.parts.PoolRule.TheVariants as rule
 use Rattle.law_sig.specs.declared.parts.SigParts.{SigParts}
 use Rattle.law_laws.proofs.TreeFacts.{tree_induct, fold-Var, fold-App}
 use Rattle.law_laws.proofs.BodyFacts.{some_is, none_is}
-use Rattle.law_laws.proofs.ListFacts.{each_map, each_all, in_split, in_rest, in_none}
+use Rattle.law_laws.proofs.ListFacts.{in_split, in_rest, in_none}
 use Rattle.law_laws.proofs.Sorts.{sorted_app, sorted_var, same_sort_itself}
 use Rattle.law_read.specs.declared.raw.RawHead.{RawHead}
 use Rattle.law_read.specs.declared.raw.RawHead.TheVariants as head
@@ -32,11 +31,10 @@ use Rattle.law_read.specs.declared.raw.RawLine.{RawLine}
 use Rattle.law_read.specs.declared.raw.RawLine.TheVariants as line
 use Rattle.law_types.specs.Names.{number_of}
 use Rattle.law_types.specs.Naming.{sort_name, symbol_name, raw_term, named_term, name_step}
-use Rattle.law_types.specs.Declarations.{sort_id, whole, is_low, has_value, sort_names, symbol_names, symbols_from}
-use Rattle.law_types.specs.Stated.{stated_symbols}
+use Rattle.law_types.specs.Declarations.{whole, is_low, has_value, sort_names, symbol_names}
 use Rattle.law_types.specs.TermFaults.{fault_if, mismatch, term_fault}
-use Rattle.law_types.specs.LineFaults.{nothing_seen, after_pool, after_values, out_of, is_too_low, some_too_low, seed_faults, explored_fault, explored_faults, side_scope, value_scope, root_sort, head_sort, name_sort, variable_sort, sort_given, sides_mismatch, background_faults, values_count, pool_faults, is_width, each_value_fault, values_faults, line_fault, case_names, faults_from, first_fault, TellsFault}
-use Rattle.law_types.specs.Typed.{Version, FitsVersion, IsTypedAs, StatesNothing, settings_lines, pools_line, sort_ids, sort_block, functions_from, AreNumbered, background_line, values_lines, pools_lines, given_lines}
+use Rattle.law_types.specs.LineFaults.{nothing_seen, after_pool, after_values, out_of, some_too_low, explored_fault, explored_faults, side_scope, value_scope, root_sort, head_sort, name_sort, variable_sort, sort_given, sides_mismatch, values_count, is_width, each_value_fault, values_faults, faults_from, first_fault, TellsFault}
+use Rattle.law_types.specs.Typed.{Version, FitsVersion, IsTypedAs, StatesNothing, settings_lines, pools_line, sort_ids, sort_block, functions_from, background_line, values_lines, pools_lines, given_lines}
 use Rattle.law_types.specs.Typed.Version.{first, second, third}
 use Rattle.law_types.specs.declared.errors.TypeErr.{TypeErr}
 use Rattle.law_types.specs.declared.errors.TypeErr.TheVariants as err
@@ -44,18 +42,16 @@ use Rattle.law_types.specs.declared.errors.TypeKind.{TypeKind}
 use Rattle.law_types.specs.declared.errors.TypeKind.TheVariants as kind
 use Rattle.law_types.specs.declared.seen.Seen.{Seen}
 use Rattle.law_types.specs.declared.whole.Whole.{Whole}
-use Rattle.law_types.proofs.NumberFacts.{stands_at}
 use Rattle.law_types.proofs.TreeOfFacts.{number_again}
-use Rattle.law_types.proofs.SideFacts.{Declares, headed, headed_result, in_text, side_passes, vars_below}
-use Rattle.law_types.proofs.Laid.{ConRow, SortRow, FunRow, SidesRow, ValuesRow, PoolRows, Layout, sorts_then, funs_then, background_then, values_then, pools_then, pool_lines, rule_line, start_then, tail_lines, declared_lines, layout_lines, FitsSort, FitsWeight, FitsCon, FitsFun, FitsSortRow}
+use Rattle.law_types.proofs.SideFacts.{Declares, headed, headed_result, in_text, side_passes}
+use Rattle.law_types.proofs.Laid.{SortRow, SidesRow, ValuesRow, PoolRows, Layout, sorts_then, funs_then, background_then, values_then, pools_then, pool_lines, rule_line, start_then, tail_lines, declared_lines, layout_lines, FitsSort, FitsCon, FitsSortRow}
 use Rattle.law_types.proofs.Laid.PoolRows.{given, seeded}
-use Rattle.law_types.proofs.Gathered.{per_con, told_sorts, told_names}
+use Rattle.law_types.proofs.Gathered.{told_sorts, told_names}
 use Rattle.law_types.proofs.Told.{told_vars, told_widths, told_symbols, con_syms, fun_syms}
 use Rattle.law_types.proofs.Passed.{NoFaults, faults_none, sorts_seen, funs_seen, funs_pools, sorts_pools}
 use Rattle.law_types.proofs.States.{headed_symbols}
 use Rattle.law_types.proofs.Blocks.{sort_no, sym_no, nums, first_nums}
 use Rattle.law_types.proofs.BodyComplete.{both_none, no_fault, value_passes}
-use Rattle.law_types.proofs.Counted.{map_distinct}
 use Rattle.law_types.proofs.HeightComplete.{within_low}
 use Rattle.law_types.proofs.LaidBack.{con_row, sort_row, sorts_back, weight_fits, FunsBack, funs_back}
 use Rattle.law_types.proofs.DeclaresBack.{by_places, map_map, per_con_back, fun_names_back, blocks_again, funs_again, somes_same}

@@ -1,5 +1,5 @@
 -- A text without faults states a signature.
-use Rattle.std.proofs.Common.{◌≡◌, ℕ, zero, suc, ◌+◌, ◌<◌, ◌≤◌, ◌^◌, List, [], ◌∷◌, ◌++◌, map, length, length-append, Bool, true, false, not, ◌&&◌, ◌||◌, nat_lt, Option, Some, None, slice_get, IsTrue, rules, arith, append_assoc, true≢false, refl, sym, ap, ap₂, ◌∙◌, subst}
+use Rattle.std.proofs.Common.{◌≡◌, ℕ, zero, suc, ◌+◌, ◌<◌, ◌≤◌, ◌^◌, List, [], ◌∷◌, ◌++◌, map, length, length-append, Bool, true, false, not, ◌&&◌, ◌||◌, Some, None, slice_get, IsTrue, rules, arith, true≢false, refl, sym, ap, ap₂, ◌∙◌, subst}
 use Rattle.std.specs.List.{AllByRecursion}
 use Rattle.std.proofs.lemmas.List.{length-map}
 use Rattle.law_sig.specs.Lists.{Each, AreDistinct}
@@ -12,18 +12,15 @@ use Rattle.law_sig.specs.declared.tree.SortId.{SortId}
 use Rattle.law_sig.specs.declared.tree.SymId.{SymId}
 use Rattle.law_sig.specs.declared.tree.Tree.{Tree}
 use Rattle.law_sig.specs.declared.parts.Sym.{Sym}
-use Rattle.law_sig.specs.declared.parts.PoolRule.{PoolRule}
-use Rattle.law_sig.specs.declared.parts.PoolRule.TheVariants as rule
 use Rattle.law_sig.specs.declared.parts.SigParts.{SigParts}
 use Rattle.law_laws.proofs.ListFacts.{each_map}
-use Rattle.law_laws.proofs.BodyFacts.{some_is}
 use Rattle.law_read.specs.Signature.{IsRawSig}
 use Rattle.law_read.specs.declared.raw.RawLine.{RawLine}
 use Rattle.law_read.specs.declared.raw.RawLine.TheVariants as line
 use Rattle.law_types.specs.Naming.{symbol_name}
 use Rattle.law_types.specs.Declarations.{whole, is_low, has_value}
 use Rattle.law_types.specs.LineFaults.{after_sort, after_symbol, nothing_seen, is_too_low, some_too_low, case_names, first_fault}
-use Rattle.law_types.specs.Stated.{short, symbol_id, stated}
+use Rattle.law_types.specs.Stated.{symbol_id, stated}
 use Rattle.law_types.specs.Typed.{Version, FitsVersion, IsTypedAs, settings_lines, pools_line, sort_ids, sort_block, background_line, given_lines}
 use Rattle.law_types.specs.Typed.Version.{first, second, third}
 use Rattle.law_types.specs.declared.seen.Seen.{Seen}
@@ -32,15 +29,15 @@ use Rattle.law_types.proofs.Laid.{ConRow, SortRow, FunRow, PoolRows, Layout, fun
 use Rattle.law_types.proofs.Laid.PoolRows.{given, seeded}
 use Rattle.law_types.proofs.LaidOut.{laid_out}
 use Rattle.law_types.proofs.Gathered.{per_con}
-use Rattle.law_types.proofs.Told.{con_sym, con_syms, fun_syms, stated_sides, stated_row, stated_pool_rule}
-use Rattle.law_types.proofs.Passed.{SortGood, ConGood, FunGood, SortsGood, ConsGood, FunsGood, EndsGood, cons_seen, sorts_seen, rules_seen, no_faults, all_good}
+use Rattle.law_types.proofs.Told.{con_sym, con_syms, fun_syms, stated_row, stated_pool_rule}
+use Rattle.law_types.proofs.Passed.{SortsGood, ConsGood, FunsGood, EndsGood, cons_seen, sorts_seen, rules_seen, no_faults, all_good}
 use Rattle.law_types.proofs.Fresh.{FreshFrom, fresh_few, fresh_distinct, fresh_sorts, fresh_names}
 use Rattle.law_types.proofs.Spelled.{ConSpelled, SortSpelled, FunSpelled, EndsSpelled, all_spelled}
-use Rattle.law_types.proofs.States.{States, Sound, states_all, short_is}
+use Rattle.law_types.proofs.States.{Sound, states_all, short_is}
 use Rattle.law_types.proofs.Blocks.{sort_no, nums, past_all, first_nums, placed, rows_placed, blocks_placed, sorts_again}
-use Rattle.law_types.proofs.SymbolsSound.{EachSym, sym_found, FunsOk, funs_ok, funs_lines, funs_split, skip_sorts, all_syms, are_numbered}
+use Rattle.law_types.proofs.SymbolsSound.{sym_found, FunsOk, funs_ok, funs_lines, funs_split, skip_sorts, all_syms, are_numbered}
 use Rattle.law_types.proofs.HeightSound.{low_value, low_within}
-use Rattle.law_types.proofs.TailSound.{NameIs, ExploredOk, explored_ok, ids_within, ids_named, ids_distinct, BackgroundOk, background_ok, PoolsOk, pools_ok, pools_few}
+use Rattle.law_types.proofs.TailSound.{ExploredOk, explored_ok, ids_within, ids_named, ids_distinct, BackgroundOk, background_ok, pools_ok, pools_few}
 
 -- Lists
 

@@ -1,16 +1,13 @@
 -- What a text in its parts states, part by part: numbers, symbols, settings and pools.
-use Rattle.std.proofs.Common.{◌≡◌, ℕ, zero, suc, ◌-◌, min, List, [], ◌∷◌, ◌++◌, map, append_assoc, append-nil, Option, Some, None, slice_get, refl, sym, ap, ap₂, ◌∙◌, arith}
+use Rattle.std.proofs.Common.{◌≡◌, ℕ, suc, ◌-◌, List, [], ◌∷◌, ◌++◌, map, append_assoc, append-nil, refl, sym, ap, ap₂, ◌∙◌, arith}
 use Rattle.law_sig.specs.Lists.{Each}
-use Rattle.law_sig.specs.declared.tree.SortId.{SortId}
-use Rattle.law_sig.specs.declared.tree.SymId.{SymId}
 use Rattle.law_sig.specs.declared.tree.Tree.{Tree}
 use Rattle.law_sig.specs.declared.parts.Sym.{Sym}
 use Rattle.law_sig.specs.declared.parts.Sym.TheVariants as sym
 use Rattle.law_sig.specs.declared.parts.Equation.{Equation}
 use Rattle.law_sig.specs.declared.parts.PoolRule.{PoolRule}
 use Rattle.law_sig.specs.declared.parts.PoolRule.TheVariants as rule
-use Rattle.law_laws.proofs.ListFacts.{each_all, each_map}
-use Rattle.law_read.specs.declared.raw.RawTerm.{RawTerm}
+use Rattle.law_laws.proofs.ListFacts.{each_map}
 use Rattle.law_read.specs.declared.raw.RawLine.{RawLine}
 use Rattle.law_read.specs.declared.raw.RawLine.TheVariants as line
 use Rattle.law_types.specs.Declarations.{sort_id, gathered, vars_in, width_in, vars_of, width_of}
@@ -18,10 +15,10 @@ use Rattle.law_types.specs.Stated.{short, symbol_id, stated_tree, stated_place, 
 use Rattle.law_types.specs.Typed.{Version}
 use Rattle.law_types.specs.Typed.Version.{first, second, third}
 use Rattle.law_types.specs.declared.whole.Whole.{Whole}
-use Rattle.law_types.proofs.Laid.{ConRow, SortRow, CaseRow, Rules, FunRow, SidesRow, ValuesRow, PoolRows, Layout, con_line, sort_line, fun_line, cons_then, sorts_then, cases_then, rules_then, funs_then, background_then, values_then, pools_then, pool_lines, rule_line, start_then, tail_lines, declared_lines, layout_lines, FitsSort, FitsWeight, FitsCon, FitsFun, FitsSortRow}
+use Rattle.law_types.proofs.Laid.{ConRow, SortRow, CaseRow, Rules, FunRow, SidesRow, ValuesRow, PoolRows, Layout, con_line, sort_line, fun_line, cons_then, sorts_then, cases_then, rules_then, funs_then, background_then, values_then, pools_then, pool_lines, rule_line, start_then, tail_lines, declared_lines, layout_lines, FitsCon, FitsFun, FitsSortRow}
 use Rattle.law_types.proofs.Laid.Rules.{single, matching}
 use Rattle.law_types.proofs.Laid.PoolRows.{given, seeded}
-use Rattle.law_types.proofs.Gathered.{IsQuiet, IsBrief, per_con, per_sort, per_symbol, skip, starts_quiet, sorts_quiet, funs_quiet, sides_give, sides_quiet, ends_quiet}
+use Rattle.law_types.proofs.Gathered.{IsQuiet, IsBrief, per_con, per_sort, per_symbol, starts_quiet, sorts_quiet, funs_quiet, sides_give, sides_quiet, ends_quiet}
 
 -- Numbers of variables, widths and weights
 

@@ -1,6 +1,6 @@
 -- The signature that a text without faults states, made line by line. These words give something for every text; what they
 -- give is meant where no line shows a fault.
-use Rattle.std.specs.Prelude.{ℕ, zero, suc, min, List, [], ◌∷◌, map, Bool, true, false, Option, Some, None, unwrap_or, slice_get}
+use Rattle.std.specs.Prelude.{ℕ, min, List, [], ◌∷◌, map, Bool, true, false, Option, Some, None, unwrap_or, slice_get}
 use Rattle.law_sig.specs.Signature.{constructors_from}
 use Rattle.law_sig.specs.WellFormed.{is_function}
 use Rattle.law_sig.specs.declared.tree.SortId.{SortId}
@@ -24,7 +24,7 @@ use Rattle.law_read.specs.declared.raw.RawLine.{RawLine}
 use Rattle.law_read.specs.declared.raw.RawLine.TheVariants as line
 use Rattle.law_types.specs.Names.{number_of}
 use Rattle.law_types.specs.Declarations.{sort_id, sort_in, declared_in, sorts_after, added, gathered}
-use Rattle.law_types.specs.TermFaults.{symbol_of, wanted_of}
+use Rattle.law_types.specs.TermFaults.{symbol_of}
 use Rattle.law_types.specs.LineFaults.{case_names}
 use Rattle.law_types.specs.declared.whole.Whole.{Whole}
 
