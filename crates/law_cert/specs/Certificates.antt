@@ -71,9 +71,9 @@ IsLaw entry = ⊥
 abbrev pub AreTrees : (sorts terms : ℕ) → List TreeLine → Type 0
 AreTrees zero zero [] = Unit {0}
 AreTrees sorts (suc terms) (Leaf number ∷ lines) = AreTrees sorts terms lines
-AreTrees sorts (suc terms) (Split test count ∷ lines) = AreTrees sorts (count + terms) lines
+AreTrees sorts (suc terms) (Split test count ∷ lines) = AreTrees sorts (terms + count) lines
 AreTrees (suc sorts) zero (Class numbers ∷ lines) = AreTrees sorts 1 lines
-AreTrees (suc sorts) zero (Split test count ∷ lines) = AreTrees (count + sorts) zero lines
+AreTrees (suc sorts) zero (Split test count ∷ lines) = AreTrees (sorts + count) zero lines
 AreTrees sorts terms lines = ⊥
 
 -- a split has at least two children, and a class at least one schema

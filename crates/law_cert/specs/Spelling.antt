@@ -39,12 +39,15 @@ abbrev pub pos_text : List ℕ → List ℕ
 pos_text [] = codes "-"
 pos_text (n ∷ numbers) = decimal n ++ dotted numbers
 
--- A variable, and the term that stands in its place.
-abbrev pub bind_words : RawBind → List (List ℕ)
-bind_words bind = (bind.sort ++ 46 ∷ decimal bind.index) ∷ arg_spelling bind.term ∷ []
+-- A variable, a space, and the term that stands in its place.
+abbrev pub var_text : List ℕ → ℕ → List ℕ
+var_text sort index = sort ++ 46 ∷ decimal index
+
+abbrev pub bind_text : RawBind → List ℕ
+bind_text bind = var_text bind.sort bind.index ++ 32 ∷ arg_spelling bind.term
 
 abbrev pub step_words : RawStep → List (List ℕ)
-step_words step = codes "step" ∷ pos_text step.pos ∷ decimal step.eq ∷ dir_text step.dir ∷ flat_map bind_words step.binds
+step_words step = codes "step" ∷ pos_text step.pos ∷ decimal step.eq ∷ dir_text step.dir ∷ map bind_text step.binds
 
 abbrev pub step_spelling : RawStep → List ℕ
 step_spelling step = joined (step_words step)

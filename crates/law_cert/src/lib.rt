@@ -3,9 +3,18 @@
 #![tactic(auto)]
 
 mod cert;
+mod draft;
 mod error;
+mod line;
+mod part;
+mod phase;
+mod reader;
 mod write;
 
 pub use cert::{Cert, Dir, Entry, LawList, Mark, RawBind, RawStep, RawValues, SortTree, TreeLine};
 pub use error::CertErr;
+pub use reader::{CertReader, read_cert};
 pub use write::{write_cert, write_law, write_list};
+
+#[cfg(test)]
+mod tests;

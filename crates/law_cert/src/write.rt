@@ -1,7 +1,7 @@
 ghost use Rattle.std.specs.Prelude.{◌≡◌, ◌++◌, ◌∷◌, [], map, decimal, codes, IfOk, OnOk};
 ghost use Rattle.std.specs.List.{flat_map};
 ghost use Rattle.law_read.specs.Spelling.{joined, sig_spelling, spaced, text_of};
-ghost use Rattle.law_cert.specs.Spelling.{bind_words, cert_spelling, dir_text, dotted, entry_lines, entry_spelling, equation_words, list_spelling, mark_text, node_spelling, pool_lines, pos_text, step_spelling, tree_lines, values_spelling};
+ghost use Rattle.law_cert.specs.Spelling.{bind_text, cert_spelling, dir_text, dotted, entry_lines, entry_spelling, equation_words, list_spelling, mark_text, node_spelling, pool_lines, pos_text, step_spelling, tree_lines, values_spelling};
 ghost use Rattle.law_cert.specs.Certificates.{IsCertText, IsLaw, IsListText};
 
 use crate::cert::{
@@ -234,7 +234,7 @@ fn put_dotted(out: &mut Text, numbers: &[u32]) -> Result<(), NoMemory>
 
 /// Each variable and its term, both behind a space.
 fn put_binds(out: &mut Text, binds: &[RawBind]) -> Result<(), NoMemory>
-    ensures { OnOk result (out.new ≡ out.old ++ spaced (flat_map bind_words binds.now)) }
+    ensures { OnOk result (out.new ≡ out.old ++ spaced (map bind_text binds.now)) }
 {
     for bind in binds {
         put_word(out, bind.sort.as_slice())?;
