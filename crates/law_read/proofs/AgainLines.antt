@@ -79,7 +79,7 @@ pub root_end : (place : Place) (term : RawTerm) → IsTerm Kept place term → w
 root_end place term h =
     ap (λ l. walk 0 (w.Gap ∷ w.Root place e.Line ∷ []) (pieces l)) (sym (append-nil (spaced (term_words term)))) ∙ root_on place term e.Line [] [] [] (refl, refl, refl) h ∙ nothing
 
-sides_on : (left right : RawTerm) → IsTerm Kept p.Equation left → IsTerm Kept p.Equation right
+pub sides_on : (left right : RawTerm) → IsTerm Kept p.Equation left → IsTerm Kept p.Equation right
     → walk 0 (w.Gap ∷ w.Root p.Equation (e.Mark Equals) ∷ w.Gap ∷ w.Root p.Equation e.Line ∷ []) (pieces (spaced (term_words left ++ codes "=" ∷ term_words right))) ≡ None
 sides_on left right h g =
     let rest : List Want = w.Gap ∷ w.Root p.Equation e.Line ∷ [] in

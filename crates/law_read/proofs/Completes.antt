@@ -28,7 +28,7 @@ use Rattle.law_read.proofs.RowSteps.{both}
 use Rattle.law_read.proofs.Orders.{in_order_spelled, is_end, last_holds}
 
 -- a term of one name, and lines that hold nothing else
-abbrev sample : RawTerm
+abbrev pub sample : RawTerm
 sample = let layer : RawTerm-F RawTerm = record { head = Name (codes "A"); args = [] } in roll-RawTerm layer
 
 sample_is : (place : Place) → IsTerm Kept place sample
@@ -126,7 +126,7 @@ AreLines lines = AllByRecursion (IsLine Kept) lines
 zero_is : 0 < 2 ^ 63
 zero_is = omega arith
 
-values_is : IsLine Kept (l.Values (codes "A") (sample ∷ []))
+pub values_is : IsLine Kept (l.Values (codes "A") (sample ∷ []))
 values_is = (refl, omega arith, (sample_is p.Value, tt))
 
 to_end_are : (given : Bool) → AreLines (to_end given)

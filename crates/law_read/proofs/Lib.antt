@@ -24,6 +24,7 @@ pub mod LineWords
 pub mod LinesFound
 pub mod Grown
 pub mod SomeFirst
+pub mod SegmentTexts
 pub mod Spaced
 pub mod TextReads
 pub mod Walks

@@ -16,28 +16,12 @@ use Rattle.law_read.specs.declared.want.Bounds.TheVariants.{Kept}
 use Rattle.law_read.specs.declared.want.Place.{Place}
 use Rattle.law_read.specs.declared.want.Place.TheVariants as p
 use Rattle.law_read.specs.Spelling.{arg_spelling, arg_step, bracketed, head_spelling, joined, spaced, term_words}
+use Rattle.law_read.specs.FirstArg.{above, word_at, word_by}
 use Rattle.law_read.specs.Laws.{OneTerm}
 use Rattle.law_read.specs.Terms.{head_fits, is_empty, is_name_in, node_fits, nodes_fit, within}
 use Rattle.law_read.specs.Walk.{cut}
 use Rattle.law_read.proofs.RowSteps.{both}
 use Rattle.law_read.proofs.Again.{all_named, cut_at_dot, head_atom, is_solid, less_of}
-
--- The first word of some bytes: a space or a closing bracket outside of brackets ends it.
-abbrev word_by : Bool → Bool → Bool → ℕ → ℕ → List ℕ → List ℕ → List ℕ → List ℕ
-word_by true closes space level b deeper higher same = b ∷ deeper
-word_by false true space zero b deeper higher same = []
-word_by false true space (suc level) b deeper higher same = b ∷ higher
-word_by false false true zero b deeper higher same = []
-word_by false false true (suc level) b deeper higher same = b ∷ same
-word_by false false false level b deeper higher same = b ∷ same
-
-abbrev above : ℕ → ℕ
-above zero = zero
-above (suc level) = level
-
-unfoldable pub word_at : ℕ → List ℕ → List ℕ
-word_at level [] = []
-word_at level (b ∷ bs) = word_by (b == 40) (b == 41) (b == 32) level b (word_at (suc level) bs) (word_at (above level) bs) (word_at level bs)
 
 -- Bytes that are taken whole, inside of brackets or anywhere.
 abbrev IsInner : List ℕ → Type 0

@@ -24,7 +24,7 @@ use Rattle.law_read.proofs.CleanLines.{clean_joined, clean_words}
 no_feed_byte : (b : ℕ) → is_printed b ≡ true → (b == 10) ≡ false
 no_feed_byte b h = grind (arith, nat_tests)
 
-no_feed : (bytes : List ℕ) → list_all is_printed bytes ≡ true → has_feed bytes ≡ false
+pub no_feed : (bytes : List ℕ) → list_all is_printed bytes ≡ true → has_feed bytes ≡ false
 no_feed [] h = refl
 no_feed (b ∷ bytes) h = let q = both (is_printed b) (list_all is_printed bytes) h in ap (λ t. t || has_feed bytes) (no_feed_byte b q.0) ∙ no_feed bytes q.1
 

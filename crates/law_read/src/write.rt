@@ -21,11 +21,19 @@ pub fn write_lines(alloc: Global, lines: &[RawLine]) -> Result<Text, NoMemory>
     ensures { IfOk result (λ text. text ≡ sig_spelling lines.now) }
 {
     let mut text = Text::new(alloc);
-    for line in lines {
-        put_line(&mut text, line)?;
-        text.push(b'\n')?;
-    }
+    put_lines(&mut text, lines)?;
     Ok(text)
+}
+
+/// Adds these lines, each with its line feed.
+pub fn put_lines(out: &mut Text, lines: &[RawLine]) -> Result<(), NoMemory>
+    ensures { OnOk result (out.new ≡ out.old ++ sig_spelling lines.now) }
+{
+    for line in lines {
+        put_line(out, line)?;
+        out.push(b'\n')?;
+    }
+    Ok(())
 }
 
 /// The text of a term that stands by itself.
@@ -58,7 +66,8 @@ fn put_head(out: &mut Text, head: &RawHead) -> Result<(), NoMemory>
     }
 }
 
-fn put_arg(out: &mut Text, term: &RawTerm) -> Result<(), NoMemory>
+/// Adds a term as an argument.
+pub fn put_arg(out: &mut Text, term: &RawTerm) -> Result<(), NoMemory>
     ensures { OnOk result (out.new ≡ out.old ++ arg_spelling term.now) }
 {
     if term.args.len() == 0 {
@@ -80,8 +89,8 @@ fn put_term(out: &mut Text, term: &RawTerm) -> Result<(), NoMemory>
     put_args(out, term.args.as_slice())
 }
 
-/// Each word of the term behind a space.
-fn put_words(out: &mut Text, term: &RawTerm) -> Result<(), NoMemory>
+/// Adds each word of the term, behind a space.
+pub fn put_words(out: &mut Text, term: &RawTerm) -> Result<(), NoMemory>
     ensures { OnOk result (out.new ≡ out.old ++ spaced (term_words term.now)) }
 {
     out.push(b' ')?;
@@ -97,8 +106,8 @@ fn put_background(out: &mut Text, left: &RawTerm, right: &RawTerm) -> Result<(),
     put_words(out, right)
 }
 
-/// Each argument behind a space.
-fn put_args(out: &mut Text, terms: &[RawTerm]) -> Result<(), NoMemory>
+/// Adds each argument, behind a space.
+pub fn put_args(out: &mut Text, terms: &[RawTerm]) -> Result<(), NoMemory>
     ensures { OnOk result (out.new ≡ out.old ++ spaced (map arg_spelling terms.now)) }
 {
     for term in terms {
@@ -118,14 +127,16 @@ fn put_names(out: &mut Text, names: &[Text]) -> Result<(), NoMemory>
     Ok(())
 }
 
-fn put_word(out: &mut Text, word: &[u8]) -> Result<(), NoMemory>
+/// Adds a word, behind a space.
+pub fn put_word(out: &mut Text, word: &[u8]) -> Result<(), NoMemory>
     ensures { OnOk result (out.new ≡ out.old ++ 32 ∷ word.now) }
 {
     out.push(b' ')?;
     out.push_slice(word)
 }
 
-fn put_numeral(out: &mut Text, n: u64) -> Result<(), NoMemory>
+/// Adds a number, behind a space.
+pub fn put_numeral(out: &mut Text, n: u64) -> Result<(), NoMemory>
     ensures { OnOk result (out.new ≡ out.old ++ 32 ∷ decimal n) }
 {
     out.push(b' ')?;

@@ -1,0 +1,142 @@
+-- What the reader of a certificate has, and what it says.
+use Rattle.std.specs.Prelude.{◌≡◌, ℕ, ◌-◌, ◌^◌, min, length, ◌⊎◌, Bool, true, false, List, [], ◌∷◌, ◌++◌, map, Option, Some, None, codes}
+use Rattle.std.specs.List.{AllByRecursion}
+use Rattle.law_read.specs.declared.want.Bounds.TheVariants.{Kept}
+use Rattle.law_read.specs.Faults.{is_closed_by}
+use Rattle.law_read.specs.Lines.{IsLine}
+use Rattle.law_read.specs.Progress.{Progress}
+use Rattle.law_read.specs.Signature.{IsRawSig}
+use Rattle.law_read.specs.Stages.{InOrder, stage_behind, start}
+use Rattle.law_read.specs.Spelling.{line_spelling, text_of}
+use Rattle.law_read.specs.Texts.{IsUnbroken, next_number}
+use Rattle.law_cert.specs.declared.cert.Cert.{Cert}
+use Rattle.law_cert.specs.declared.draft.Draft.{Draft}
+use Rattle.law_cert.specs.declared.phase.Phase.{Phase}
+use Rattle.law_cert.specs.declared.phase.Phase.TheVariants as p
+use Rattle.law_cert.specs.declared.error.CertErr.{CertErr}
+use Rattle.law_cert.specs.declared.error.CertErr.TheVariants as error
+use Rattle.law_cert.specs.Spelling.{cert_lines, cert_spelling}
+use Rattle.law_cert.specs.Certificates.{IsCertText}
+use Rattle.law_cert.specs.CertLines.{line_text}
+use Rattle.law_cert.specs.Drafts.{IsReached, read_of}
+use Rattle.law_cert.specs.Readings.{FaultAt, FaultyLine, FirstFault, HasReading, Unfinished}
+
+abbrev pub head_text : List ℕ
+head_text = codes "certificate 1"
+
+abbrev pub body_lines : Draft → List (List ℕ)
+body_lines draft = map line_text (read_of draft)
+
+-- the lines that were read
+abbrev pub phase_lines : Phase → List (List ℕ)
+phase_lines p.Head = []
+phase_lines (p.Sig reader) = head_text ∷ map line_spelling reader.lines
+phase_lines (p.Body sig draft) = head_text ∷ (map line_spelling sig ++ body_lines draft)
+phase_lines (p.Refused number) = []
+phase_lines p.Starved = []
+
+abbrev pub phase_refused : Phase → Option ℕ
+phase_refused (p.Refused number) = Some number
+phase_refused phase = None
+
+abbrev pub phase_starved : Phase → Bool
+phase_starved p.Starved = true
+phase_starved phase = false
+
+-- The lines of a signature that isn't over.
+pub record IsSigOpen (reader : Progress) : Type 0 where
+  pub going : reader.refused ≡ None
+  pub order : InOrder start reader.lines
+  pub each : AllByRecursion (IsLine Kept) reader.lines
+  pub unclosed : is_closed_by (stage_behind start reader.lines).last ≡ false
+
+abbrev pub IsPhase : Phase → Type 0
+IsPhase (p.Sig reader) = IsSigOpen reader
+IsPhase (p.Body sig draft) = IsRawSig sig × IsReached draft
+IsPhase phase = Unit {0}
+
+abbrev pub IsGoing : Phase → Type 0
+IsGoing phase = (phase_refused phase ≡ None) × (phase_starved phase ≡ false)
+
+-- The phase with one more line, or no certificate has the lines with it.
+abbrev pub IsPhaseWith : Phase → List ℕ → Option Phase → Type 0
+IsPhaseWith before line None = IsGoing before → HasReading (phase_lines before ++ line ∷ []) → ⊥
+IsPhaseWith before line (Some phase) = IsPhase phase × IsGoing phase × (phase_lines phase ≡ phase_lines before ++ line ∷ [])
+
+-- The lines read, the unfinished one, the number of a line that was refused, and whether memory was.
+pub record Heard : Type 0 where
+  pub lines : List (List ℕ)
+  pub unfinished : List ℕ
+  pub refused : Option ℕ
+  pub starved : Bool
+
+-- what the pieces say together, while nothing is refused
+abbrev pub heard_text : Heard → List ℕ
+heard_text heard = text_of heard.lines ++ heard.unfinished
+
+pub record IsOpen (heard : Heard) : Type 0 where
+  pub allowed : heard.refused ≡ None
+  pub fed : heard.starved ≡ false
+
+pub record IsFed (old new : Heard) (piece : List ℕ) : Type 0 where
+  pub before : IsOpen old
+  pub after : IsOpen new
+  pub text : heard_text new ≡ heard_text old ++ piece
+
+-- the line that the reader names is the one that it keeps
+abbrev pub Stops : Heard → CertErr → Type 0
+Stops heard (error.Form number) = (heard.refused ≡ Some number) × (heard.starved ≡ false)
+Stops heard error.NoMemory = (heard.starved ≡ true) × (heard.refused ≡ None)
+
+abbrev pub Faults : List ℕ → CertErr → Type 0
+Faults text (error.Form number) = FaultAt text number FaultyLine
+Faults text error.NoMemory = Unit {0}
+
+-- a line of the text, or memory, is refused now
+pub record StopsNow (old : Heard) (piece : List ℕ) (why : CertErr) : Type 0 where
+  pub before : IsOpen old
+  pub fault : Faults (heard_text old ++ piece) why
+
+-- It is refused now, or was earlier, and the reader keeps that.
+pub record IsStopped (old new : Heard) (piece : List ℕ) (why : CertErr) : Type 0 where
+  pub kept : Stops new why
+  pub cause : Stops old why ⊎ StopsNow old piece why
+
+-- The unfinished line is over, and has no reading.
+pub record IsFaulty (old : Heard) (number : ℕ) : Type 0 where
+  pub whole : IsUnbroken old.unfinished
+  pub reads : HasReading old.lines
+  pub next : number ≡ next_number old.lines
+  pub stuck : HasReading (old.lines ++ old.unfinished ∷ []) → ⊥
+
+abbrev pub IsClosedTo : Heard → Option ℕ → Type 0
+IsClosedTo old None = Unit {0}
+IsClosedTo old (Some number) = IsFaulty old number
+
+-- how the reader's fields hang together
+pub record IsReader (phase : Phase) (count : ℕ) (unfinished : List ℕ) : Type 0 where
+  pub is : IsPhase phase
+  pub counted : IsGoing phase → count ≡ min (length (phase_lines phase)) (2 ^ 64 - 1)
+  pub whole : IsGoing phase → IsUnbroken unfinished
+
+-- the text ends too early, or the reader had stopped
+abbrev pub NotWhole : Heard → CertErr → Type 0
+NotWhole heard (error.Form number) = Stops heard (error.Form number) ⊎ (IsOpen heard × FaultAt (heard_text heard) number Unfinished)
+NotWhole heard error.NoMemory = Stops heard error.NoMemory
+
+-- The certificate of the lines.
+pub record IsWhole (heard : Heard) (cert : Cert) : Type 0 where
+  pub open_reader : IsOpen heard
+  pub none_left : heard.unfinished ≡ []
+  pub spelled : IsCertText cert
+  pub lines : cert_lines cert ≡ heard.lines
+
+-- The text is the spelling of the certificate, which the grammar spells.
+pub record IsReadAs (text : List ℕ) (cert : Cert) : Type 0 where
+  pub is : IsCertText cert
+  pub spelled : cert_spelling cert ≡ text
+
+-- The first line without a reading has this number.
+abbrev pub RefusedBy : List ℕ → CertErr → Type 0
+RefusedBy text (error.Form number) = FirstFault text number
+RefusedBy text error.NoMemory = Unit {0}

@@ -1,0 +1,128 @@
+ghost use Rattle.std.specs.Prelude.{◌≡◌, [], ◌∷◌, None, false, IfOk, IfErr, MatchResult};
+ghost use Rattle.law_cert.specs.Readers.{IsClosedTo, IsFed, IsOpen, IsReadAs, IsStopped, IsWhole, NotWhole, RefusedBy, Stops};
+
+use crate::cert::Cert;
+use crate::draft::Draft;
+use crate::error::CertErr;
+use crate::phase::Phase;
+use law_sig::Text;
+use std::alloc::Global;
+use std::marker::Model;
+use std::mem;
+
+/// The reader of a certificate, fed piece by piece. It keeps what the lines so far say and the unfinished
+/// line, or the number of the line that was refused, or that memory was refused.
+#[derive(Debug, Drop)]
+pub struct CertReader {
+    alloc: Global,
+    count: u64,
+    phase: Phase,
+    unfinished: Text,
+}
+
+impl Model for CertReader {
+    ghost use Rattle.law_cert.specs.Readers.{Heard, IsReader, phase_lines, phase_refused, phase_starved};
+
+    ghost Value = { Heard };
+
+    ghost view = { λ reader. record { lines = phase_lines reader.phase; unfinished = reader.unfinished; refused = phase_refused reader.phase; starved = phase_starved reader.phase } };
+
+    ghost invariant = { λ reader. IsReader reader.phase reader.count reader.unfinished };
+}
+
+impl CertReader {
+    /// The reader of no bytes.
+    pub fn new(alloc: Global) -> CertReader
+        ensures open { IsOpen result }
+        ensures lines { result.lines ≡ [] }
+        ensures unfinished { result.unfinished ≡ [] }
+    {
+        CertReader {
+            alloc,
+            count: 0,
+            phase: Phase::Head,
+            unfinished: Text::new(alloc),
+        }
+    }
+
+    /// Reads more bytes. Once a line or memory is refused, each later call answers the same.
+    pub fn feed(&mut self, piece: &[u8]) -> Result<(), CertErr>
+        ensures ok { MatchResult result (λ _. IsFed self.old self.new piece.now) (IsStopped self.old self.new piece.now) }
+    {
+        self.answer()?;
+        for byte in piece {
+            self.take(*byte)?;
+        }
+        Ok(())
+    }
+
+    fn take(&mut self, byte: u8) -> Result<(), CertErr>
+        ensures { MatchResult result (λ _. IsFed self.old self.new (byte ∷ [])) (IsStopped self.old self.new (byte ∷ [])) }
+    {
+        self.answer()?;
+        if byte == b'\n' {
+            self.close();
+            return self.answer();
+        }
+        match self.unfinished.push(byte) {
+            Ok(()) => Ok(()),
+            Err(_) => {
+                self.phase = Phase::Starved;
+                Err(CertErr::NoMemory)
+            }
+        }
+    }
+
+    /// The unfinished line is over.
+    fn close(&mut self)
+        requires { IsOpen self.old }
+        ensures fed { IsOpen self.new → IsFed self.old self.new (10 ∷ []) }
+        ensures refused { IsClosedTo self.old self.new.refused }
+    {
+        let phase = mem::replace(&mut self.phase, Phase::Starved);
+        let line = mem::replace(&mut self.unfinished, Text::new(self.alloc));
+        let number = self.count.saturating_add(1);
+        self.phase = match phase.with(self.alloc, line.as_slice()) {
+            Ok(Some(phase)) => phase,
+            Ok(None) => Phase::Refused(number),
+            Err(_) => Phase::Starved,
+        };
+        self.count = number;
+    }
+
+    fn answer(&self) -> Result<(), CertErr>
+        ensures { MatchResult result (λ _. IsOpen self.now) (Stops self.now) }
+    {
+        match self.phase {
+            Phase::Refused(line) => Err(CertErr::Form { line }),
+            Phase::Starved => Err(CertErr::NoMemory),
+            _ => Ok(()),
+        }
+    }
+
+    /// The certificate of the joined pieces.
+    pub fn finish(self) -> Result<Cert, CertErr>
+        ensures ok { IfOk result (IsWhole self) }
+        ensures err { IfErr result (NotWhole self) }
+    {
+        let line = self.count.saturating_add(1);
+        if self.unfinished.len() == 0 {
+            return self.phase.finish(line);
+        }
+        match self.answer() {
+            Ok(()) => Err(CertErr::Form { line }),
+            Err(error) => Err(error),
+        }
+    }
+}
+
+/// The certificate that a text spells.
+#[tactic(auto, using(crate::proofs::BodyText::reads))]
+pub fn read_cert(alloc: Global, text: &[u8]) -> Result<Cert, CertErr>
+    ensures ok { IfOk result (IsReadAs text.now) }
+    ensures err { IfErr result (RefusedBy text.now) }
+{
+    let mut reader = CertReader::new(alloc);
+    reader.feed(text)?;
+    reader.finish()
+}

@@ -1,0 +1,6 @@
+use Rattle.std.proofs.Common.{rules}
+use Rattle.law_read.proofs.SegmentTexts.{no_values}
+use Rattle.law_read.proofs.segments.read_values.Goals as goal
+
+pub returns-in-Err-Form : goal.returns-in-Err-Form
+returns-in-Err-Form c = no_values c.args.bytes.now c.in-Err-Form.field-0-0 (search rules)

@@ -1,6 +1,0 @@
-use Rattle.std.proofs.Common.{◌≡◌, take}
-use Rattle.law_read.specs.Spelling.{sig_spelling}
-use Rattle.law_read.proofs.write.write_lines.Given as goal
-
-abbrev pub invariant-loop-line : goal.invariant-loop-line
-invariant-loop-line l = l.text ≡ sig_spelling (take l.line-index l.lines)
