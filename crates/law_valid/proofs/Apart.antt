@@ -62,7 +62,7 @@ get_map f [] i x e = none_is x e
 get_map f (y ∷ xs) zero x e = ap (option_map f) e
 get_map f (y ∷ xs) (suc i) x e = get_map f xs i x e
 
-joined_parts : {A : Type 0} (xs ys : List (List A)) → joined (xs ++ ys) ≡ joined xs ++ joined ys
+pub joined_parts : {A : Type 0} (xs ys : List (List A)) → joined (xs ++ ys) ≡ joined xs ++ joined ys
 joined_parts [] ys = refl
 joined_parts (x ∷ xs) ys = ap (λ l. x ++ l) (joined_parts xs ys) ∙ sym (assoc x (joined xs) (joined ys))
   where

@@ -47,58 +47,45 @@ schema_before parts s t before = below_less (explore_rank parts s) (explore_rank
 -- Term entries
 
 abbrev pub term_at : Entry → List Tree
-term_at (e.Law n q) = []
-term_at (e.Lemma n q steps) = []
-term_at (e.Spread c) = []
-term_at (e.Killed q steps) = []
 term_at (e.Live t) = t ∷ []
 term_at (e.Moved q steps) = q.left ∷ []
+term_at x = []
 
 -- the entries from the next schema on
 abbrev pub from_schema : List Entry → List Entry
 from_schema [] = []
-from_schema (e.Law n q ∷ xs) = from_schema xs
-from_schema (e.Lemma n q steps ∷ xs) = from_schema xs
 from_schema (e.Spread c ∷ xs) = e.Spread c ∷ xs
 from_schema (e.Killed q steps ∷ xs) = e.Killed q steps ∷ xs
-from_schema (e.Live t ∷ xs) = from_schema xs
-from_schema (e.Moved q steps ∷ xs) = from_schema xs
+from_schema (x ∷ xs) = from_schema xs
 
 pub terms_parts : (xs : List Entry) → stated term_at xs ≡ terms_after xs ++ stated term_at (from_schema xs)
 terms_parts [] = refl
-terms_parts (e.Law n q ∷ xs) = terms_parts xs
-terms_parts (e.Lemma n q steps ∷ xs) = terms_parts xs
 terms_parts (e.Spread c ∷ xs) = refl
 terms_parts (e.Killed q steps ∷ xs) = refl
 terms_parts (e.Live t ∷ xs) = ap (λ l. t ∷ l) (terms_parts xs)
 terms_parts (e.Moved q steps ∷ xs) = ap (λ l. q.left ∷ l) (terms_parts xs)
+terms_parts (x ∷ xs) = terms_parts xs
 
 -- spread schemas are schemas, live terms are terms, and so are those up to the next schema
 pub spread_schema : (c : Tree) (xs : List Entry) → In c (stated spread_at xs) → In c (stated schema_at xs)
 spread_schema c [] at = in_none at
-spread_schema c (e.Law n q ∷ xs) at = spread_schema c xs at
-spread_schema c (e.Lemma n q steps ∷ xs) at = spread_schema c xs at
 spread_schema c (e.Spread d ∷ xs) at = by (spread_schema c xs) (in_rest at)
   where
     by : (In c (stated spread_at xs) → In c (stated schema_at xs)) → (c ≡ d) ⊎ In c (stated spread_at xs) → In c (d ∷ stated schema_at xs)
     by later (inl same) = subst (λ z. In c (z ∷ stated schema_at xs)) same here
     by later (inr h) = there (later h)
 spread_schema c (e.Killed q steps ∷ xs) at = there (spread_schema c xs at)
-spread_schema c (e.Live t ∷ xs) at = spread_schema c xs at
-spread_schema c (e.Moved q steps ∷ xs) at = spread_schema c xs at
+spread_schema c (x ∷ xs) at = spread_schema c xs at
 
 pub live_term : (t : Tree) (xs : List Entry) → In t (stated live_at xs) → In t (stated term_at xs)
 live_term t [] at = in_none at
-live_term t (e.Law n q ∷ xs) at = live_term t xs at
-live_term t (e.Lemma n q steps ∷ xs) at = live_term t xs at
-live_term t (e.Spread c ∷ xs) at = live_term t xs at
-live_term t (e.Killed q steps ∷ xs) at = live_term t xs at
 live_term t (e.Live u ∷ xs) at = by (live_term t xs) (in_rest at)
   where
     by : (In t (stated live_at xs) → In t (stated term_at xs)) → (t ≡ u) ⊎ In t (stated live_at xs) → In t (u ∷ stated term_at xs)
     by later (inl same) = subst (λ z. In t (z ∷ stated term_at xs)) same here
     by later (inr h) = there (later h)
 live_term t (e.Moved q steps ∷ xs) at = there (live_term t xs at)
+live_term t (x ∷ xs) at = live_term t xs at
 
 pub after_term : (t : Tree) (xs : List Entry) → In t (terms_after xs) → In t (stated term_at xs)
 after_term t xs at = subst (In t) (sym (terms_parts xs)) (in_left (stated term_at (from_schema xs)) at)
@@ -108,19 +95,14 @@ after_term t xs at = subst (In t) (sym (terms_parts xs)) (in_left (stated term_a
 -- after each spread schema stand its instances, and after a killed one no term
 abbrev pub Blocks : SigParts → List Tree → List Entry → Type 0
 Blocks parts lives [] = Unit {0}
-Blocks parts lives (e.Law n q ∷ xs) = Blocks parts lives xs
-Blocks parts lives (e.Lemma n q steps ∷ xs) = Blocks parts lives xs
 Blocks parts lives (e.Spread c ∷ xs) = AreExactly parts (IsInstance parts lives c) (terms_after xs) × Blocks parts lives xs
 Blocks parts lives (e.Killed q steps ∷ xs) = (terms_after xs ≡ []) × Blocks parts lives xs
-Blocks parts lives (e.Live t ∷ xs) = Blocks parts lives xs
-Blocks parts lives (e.Moved q steps ∷ xs) = Blocks parts lives xs
+Blocks parts lives (x ∷ xs) = Blocks parts lives xs
 
 pub blocks_of : (parts : SigParts) (pools : Pools) (all : List Entry)
     → ((before : List Entry) (x : Entry) (after : List Entry) → all ≡ before ++ x ∷ after → IsEntry parts pools all before x after)
     → (before xs : List Entry) → all ≡ before ++ xs → Blocks parts (stated live_at all) xs
 blocks_of parts pools all each before [] split = tt
-blocks_of parts pools all each before (e.Law n q ∷ xs) split = blocks_of parts pools all each (before ++ e.Law n q ∷ []) xs (split ∙ sym (append_assoc before (e.Law n q ∷ []) xs))
-blocks_of parts pools all each before (e.Lemma n q steps ∷ xs) split = blocks_of parts pools all each (before ++ e.Lemma n q steps ∷ []) xs (split ∙ sym (append_assoc before (e.Lemma n q steps ∷ []) xs))
 blocks_of parts pools all each before (e.Spread c ∷ xs) split = (
   each before (e.Spread c) xs split,
   blocks_of parts pools all each (before ++ e.Spread c ∷ []) xs (split ∙ sym (append_assoc before (e.Spread c ∷ []) xs)),
@@ -129,8 +111,7 @@ blocks_of parts pools all each before (e.Killed q steps ∷ xs) split = (
   (each before (e.Killed q steps) xs split).2,
   blocks_of parts pools all each (before ++ e.Killed q steps ∷ []) xs (split ∙ sym (append_assoc before (e.Killed q steps ∷ []) xs)),
 )
-blocks_of parts pools all each before (e.Live t ∷ xs) split = blocks_of parts pools all each (before ++ e.Live t ∷ []) xs (split ∙ sym (append_assoc before (e.Live t ∷ []) xs))
-blocks_of parts pools all each before (e.Moved q steps ∷ xs) split = blocks_of parts pools all each (before ++ e.Moved q steps ∷ []) xs (split ∙ sym (append_assoc before (e.Moved q steps ∷ []) xs))
+blocks_of parts pools all each before (x ∷ xs) split = blocks_of parts pools all each (before ++ x ∷ []) xs (split ∙ sym (append_assoc before (x ∷ []) xs))
 
 -- an instance of one of these schemas
 abbrev pub IsOfSome : SigParts → List Tree → List Tree → Tree → Type 0
@@ -160,14 +141,11 @@ module _ (parts : SigParts) (lives : List Tree) where
   ordered : (xs : List Entry) → Blocks parts lives xs → Rising (IsBefore parts) (stated schema_at xs)
       → AreOrdered parts lives (stated spread_at xs) (stated term_at (from_schema xs))
   ordered [] h r = record { rising = tt; instances = tt }
-  ordered (e.Law n q ∷ xs) h r = ordered xs h r
-  ordered (e.Lemma n q steps ∷ xs) h r = ordered xs h r
   ordered (e.Spread c ∷ xs) h r = subst (AreOrdered parts lives (c ∷ stated spread_at xs)) (sym (terms_parts xs))
       (with_block c xs (terms_after xs) (stated term_at (from_schema xs)) h.0 r.0 (ordered xs h.1 r.1))
   ordered (e.Killed q steps ∷ xs) h r = subst (AreOrdered parts lives (stated spread_at xs))
       (sym (terms_parts xs ∙ no_more (terms_after xs) (stated term_at (from_schema xs)) h.0)) (ordered xs h.1 r.1)
-  ordered (e.Live t ∷ xs) h r = ordered xs h r
-  ordered (e.Moved q steps ∷ xs) h r = ordered xs h r
+  ordered (x ∷ xs) h r = ordered xs h r
 
   pub all_ordered : (all : List Entry) → Blocks parts lives all → Rising (IsBefore parts) (stated schema_at all) → terms_after all ≡ []
       → AreOrdered parts lives (stated spread_at all) (stated term_at all)

@@ -151,10 +151,9 @@ module _ (parts : SigParts) (pools : Pools) (all : List Entry) (trees : List Sor
           one (inl same) = subst (IsLaw parts pools) (sym same) is.1
           one (inr no_more) = in_none no_more
       by before (e.Lemma n k steps) after is at = in_none at
-      by before (e.Spread c) after is at = in_none at
       by before (e.Killed k steps) after is at = in_none at
-      by before (e.Live t) after is at = in_none at
       by before (e.Moved k steps) after is at = in_none at
+      by before x after is at = in_none at
 
   pub covers : IsCovered parts pools (stated law_at all)
   covers = record { terms = λ sort s t s_in t_in. between sort s t (reached parts pools all trees valid s sort s_in) (reached parts pools all trees valid t sort t_in); laws_hold = each_of (IsLaw parts pools) (stated law_at all) law_holds }

@@ -15,8 +15,8 @@ use Rattle.law_laws.proofs.Derivation.{derivable_cut}
 use Rattle.law_laws.proofs.Coverage.{derivable_itself}
 use Rattle.law_valid.specs.declared.certificate.Bind.{Bind}
 use Rattle.law_valid.specs.declared.certificate.Step.{Step}
-use Rattle.law_valid.specs.declared.certificate.Dir.{Dir}
-use Rattle.law_valid.specs.declared.certificate.Dir.TheVariants as dir
+use Rattle.law_cert.specs.declared.cert.Dir.{Dir}
+use Rattle.law_cert.specs.declared.cert.Dir.TheVariants as dir
 use Rattle.law_valid.specs.declared.certificate.Entry.{Entry}
 use Rattle.law_valid.specs.declared.certificate.Entry.TheVariants as e
 use Rattle.law_valid.specs.Stated.{stated, equation_at, law_at, known}
@@ -46,8 +46,8 @@ pub step_derivable : (parts : SigParts) (equations : List Equation) (step : Step
 step_derivable parts equations step s t is = rewrites_derivable parts equations (by step.dir) is.rewrites
   where
     by : (d : Dir) → Derivable parts equations (substituted (bound_in step.binds) (start_side d is.equation)) (substituted (bound_in step.binds) (end_side d is.equation))
-    by dir.Lr = instance is.equation (bound_in step.binds) (numbered_in equations step.number is.equation is.named) (bound_keeps parts step.binds is.binds.sorted)
-    by dir.Rl = symmetric (substituted (bound_in step.binds) is.equation.left) (substituted (bound_in step.binds) is.equation.right)
+    by dir.LeftToRight = instance is.equation (bound_in step.binds) (numbered_in equations step.number is.equation is.named) (bound_keeps parts step.binds is.binds.sorted)
+    by dir.RightToLeft = symmetric (substituted (bound_in step.binds) is.equation.left) (substituted (bound_in step.binds) is.equation.right)
         (instance is.equation (bound_in step.binds) (numbered_in equations step.number is.equation is.named) (bound_keeps parts step.binds is.binds.sorted))
 
 pub chain_derivable : (parts : SigParts) (equations : List Equation) {steps : List Step} {s t : Tree} → Replays parts equations steps s t → Derivable parts equations s t
@@ -86,10 +86,9 @@ module _ (parts : SigParts) (pools : Pools) (all : List Entry)
           one (inl same) = subst (λ (z : Equation). Derivable parts (base_of parts all) z.left z.right) (sym same)
               (derivable_cut parts (base_of parts all) (known parts front) have (chain_derivable parts (known parts front) is.1.chain))
           one (inr no_more) = in_none no_more
-      entry front (e.Spread c) back at_all is there_is have = in_none there_is
       entry front (e.Killed k steps) back at_all is there_is have = in_none there_is
-      entry front (e.Live t) back at_all is there_is have = in_none there_is
       entry front (e.Moved k steps) back at_all is there_is have = in_none there_is
+      entry front x back at_all is there_is have = in_none there_is
 
       by : ((front back : List Entry) → length front ≤ n → all ≡ front ++ back → (k : Equation) → In k (known parts front) → Derivable parts (base_of parts all) k.left k.right)
           → In q parts.settings.background ⊎ In q (stated equation_at before) → Derivable parts (base_of parts all) q.left q.right

@@ -11,3 +11,6 @@ pub mod Passing
 pub mod Walked
 pub mod Passed
 pub mod Checked
+pub mod Reading
+pub mod Growing
+pub mod Meanings

@@ -16,7 +16,7 @@ use Rattle.law_valid.specs.declared.rule.Rule.TheVariants as r
 use Rattle.law_valid.specs.Stated.{stated, live_at, numbered}
 use Rattle.law_valid.specs.Splits.{leaves_of, AreApart, Tells}
 use Rattle.law_valid.specs.Trees.{value_of, HasSchemas, HasTerms, HasSpread, IsEarlierSort}
-use Rattle.law_valid.specs.Valid.{IsNumber, IsLemma, IsKilled, IsMoved}
+use Rattle.law_valid.specs.Valid.{IsNextNumber, IsLemma, IsKilled, IsMoved}
 use Rattle.law_valid.specs.Expected.{IsFirstAbove, IsSpent}
 use Rattle.law_valid.specs.Judged.{Answer, Yes, No, Over, If, Valued, Tests, AtTests, Background, Block, IsBlockSpent, IsNextTerm, IsNextSchema, AreSchemasSpent, HasSides, Entries, entry_after, with_term, Judging, all_cuts, ItemValued, ItemsValued, CutsTell, InTrees}
 
@@ -31,7 +31,7 @@ if_yes (inr h) = absurd (no h.1)
 never_over : (entry test : ℕ) (t : Tree) → Yes ≡ Over entry test t → ⊥
 never_over entry test t same = cc
 
-never_no : (rule : Rule) (entry : ℕ) → Yes ≡ No rule entry → ⊥
+pub never_no : (rule : Rule) (entry : ℕ) → Yes ≡ No rule entry → ⊥
 never_no rule entry same = cc
 
 module _ (parts : SigParts) (pools : Pools) where
@@ -105,8 +105,8 @@ module _ (parts : SigParts) (pools : Pools) where
 
   -- the conditions of one entry
   abbrev pub Passes : List Entry → Option Block → Entry → Type 0
-  Passes before block (e.Law number q) = (IsNumber parts before number × HasSides parts q) × Agrees parts pools q.left q.right
-  Passes before block (e.Lemma number q steps) = IsNumber parts before number × IsLemma parts before q steps
+  Passes before block (e.Law number q) = (IsNextNumber parts before number × HasSides parts q) × Agrees parts pools q.left q.right
+  Passes before block (e.Lemma number q steps) = IsNextNumber parts before number × IsLemma parts before q steps
   Passes before block (e.Spread c) = IsBlockSpent parts (stated live_at before) block × IsNextSchema parts before c
   Passes before block (e.Killed q steps) = IsBlockSpent parts (stated live_at before) block × IsNextSchema parts before (schema_of q.left)
       × IsKilled parts before q steps × Agrees parts pools q.left q.right

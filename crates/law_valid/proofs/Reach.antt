@@ -117,10 +117,6 @@ module _ (parts : SigParts) (pools : Pools) (all : List Entry) (trees : List Sor
   -- by its own entry
   by_term : (sort : SortId) (t : Tree) → InU parts sort t → (front : List Entry) (x : Entry) (back : List Entry) → all ≡ front ++ x ∷ back
       → IsEntry parts pools all front x back → In t (term_at x) → Reached sort t
-  by_term sort t bounded front (e.Law n q) back split is at = in_none at
-  by_term sort t bounded front (e.Lemma n q steps) back split is at = in_none at
-  by_term sort t bounded front (e.Spread c) back split is at = in_none at
-  by_term sort t bounded front (e.Killed q steps) back split is at = in_none at
   by_term sort t bounded front (e.Live u) back split is at = by (in_rest at)
     where
       there_is : In u (stated live_at all)
@@ -147,6 +143,7 @@ module _ (parts : SigParts) (pools : Pools) (all : List Entry) (trees : List Sor
       by : (t ≡ q.left) ⊎ In t [] → Reached sort t
       by (inl same) = subst (Reached sort) (sym same) (moved (subst (InU parts sort) same bounded))
       by (inr no_more) = in_none no_more
+  by_term sort t bounded front x back split is at = in_none at
 
   -- by the target of its killed schema, renamed
   by_killed : (sort : SortId) (t : Tree) → InU parts sort t → ((w : Tree) → IsBefore parts w t → InU parts sort w → Reached sort w)
@@ -185,10 +182,6 @@ module _ (parts : SigParts) (pools : Pools) (all : List Entry) (trees : List Sor
   by_schema : (sort : SortId) (t : Tree) → InU parts sort t → Each (λ a. In a (stated live_at all)) (arguments_of (out-Tree t))
       → ((w : Tree) → IsBefore parts w t → InU parts sort w → Reached sort w)
       → (front : List Entry) (x : Entry) (back : List Entry) → all ≡ front ++ x ∷ back → IsEntry parts pools all front x back → In (schema_of t) (schema_at x) → Reached sort t
-  by_schema sort t bounded live have front (e.Law n q) back split is at = in_none at
-  by_schema sort t bounded live have front (e.Lemma n q steps) back split is at = in_none at
-  by_schema sort t bounded live have front (e.Live u) back split is at = in_none at
-  by_schema sort t bounded live have front (e.Moved q steps) back split is at = in_none at
   by_schema sort t bounded live have front (e.Killed q steps) back split is at = by (in_rest at)
     where
       by : (schema_of t ≡ schema_of q.left) ⊎ In (schema_of t) [] → Reached sort t
@@ -203,6 +196,7 @@ module _ (parts : SigParts) (pools : Pools) (all : List Entry) (trees : List Sor
       by (inl same) = let p = stated_by term_at t all (in_all ((is.members t).1 (record { sort = sort; bounded = bounded; schema = same; args = live }))) in
           by_term sort t bounded p.before p.entry p.after p.split (valid.each p.before p.entry p.after p.split) p.at
       by (inr no_more) = in_none no_more
+  by_schema sort t bounded live have front x back split is at = in_none at
 
   settled : (sort : SortId) (t : Tree) → InU parts sort t → Each (λ a. In a (stated live_at all)) (arguments_of (out-Tree t))
       → ((w : Tree) → IsBefore parts w t → InU parts sort w → Reached sort w) → Reached sort t

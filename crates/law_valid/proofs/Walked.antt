@@ -25,80 +25,70 @@ use Rattle.law_valid.proofs.Passing.{block_after, AllPass}
 -- Schemas and terms with what they add
 
 abbrev pub schema_adds : Entry → List (Tree × List Tree)
-schema_adds (e.Law n q) = []
-schema_adds (e.Lemma n q steps) = []
 schema_adds (e.Spread c) = (c, c ∷ []) ∷ []
 schema_adds (e.Killed q steps) = (schema_of q.left, []) ∷ []
-schema_adds (e.Live t) = []
-schema_adds (e.Moved q steps) = []
+schema_adds x = []
 
 schemas_items : (xs : List Entry) → items_of (stated schema_adds xs) ≡ stated schema_at xs
 schemas_items [] = refl
-schemas_items (e.Law n q ∷ xs) = schemas_items xs
-schemas_items (e.Lemma n q steps ∷ xs) = schemas_items xs
 schemas_items (e.Spread c ∷ xs) = ap (λ l. c ∷ l) (schemas_items xs)
 schemas_items (e.Killed q steps ∷ xs) = ap (λ l. schema_of q.left ∷ l) (schemas_items xs)
-schemas_items (e.Live t ∷ xs) = schemas_items xs
-schemas_items (e.Moved q steps ∷ xs) = schemas_items xs
+schemas_items (x ∷ xs) = schemas_items xs
 
 schemas_added : (xs : List Entry) → added_by (stated schema_adds xs) ≡ stated spread_at xs
 schemas_added [] = refl
-schemas_added (e.Law n q ∷ xs) = schemas_added xs
-schemas_added (e.Lemma n q steps ∷ xs) = schemas_added xs
 schemas_added (e.Spread c ∷ xs) = ap (λ l. c ∷ l) (schemas_added xs)
-schemas_added (e.Killed q steps ∷ xs) = schemas_added xs
-schemas_added (e.Live t ∷ xs) = schemas_added xs
-schemas_added (e.Moved q steps ∷ xs) = schemas_added xs
+schemas_added (x ∷ xs) = schemas_added xs
 
 schemas_themselves : (xs : List Entry) → AddThemselves (stated schema_adds xs)
 schemas_themselves [] = tt
-schemas_themselves (e.Law n q ∷ xs) = schemas_themselves xs
-schemas_themselves (e.Lemma n q steps ∷ xs) = schemas_themselves xs
 schemas_themselves (e.Spread c ∷ xs) = ((refl, tt), schemas_themselves xs)
 schemas_themselves (e.Killed q steps ∷ xs) = (tt, schemas_themselves xs)
-schemas_themselves (e.Live t ∷ xs) = schemas_themselves xs
-schemas_themselves (e.Moved q steps ∷ xs) = schemas_themselves xs
+schemas_themselves (x ∷ xs) = schemas_themselves xs
 
 -- the terms up to the next schema
 abbrev pub term_adds : List Entry → List (Tree × List Tree)
 term_adds [] = []
-term_adds (e.Law n q ∷ xs) = term_adds xs
-term_adds (e.Lemma n q steps ∷ xs) = term_adds xs
 term_adds (e.Spread c ∷ xs) = []
 term_adds (e.Killed q steps ∷ xs) = []
 term_adds (e.Live t ∷ xs) = (t, t ∷ []) ∷ term_adds xs
 term_adds (e.Moved q steps ∷ xs) = (q.left, []) ∷ term_adds xs
+term_adds (x ∷ xs) = term_adds xs
 
 terms_items : (xs : List Entry) → items_of (term_adds xs) ≡ terms_after xs
 terms_items [] = refl
-terms_items (e.Law n q ∷ xs) = terms_items xs
-terms_items (e.Lemma n q steps ∷ xs) = terms_items xs
 terms_items (e.Spread c ∷ xs) = refl
 terms_items (e.Killed q steps ∷ xs) = refl
 terms_items (e.Live t ∷ xs) = ap (λ l. t ∷ l) (terms_items xs)
 terms_items (e.Moved q steps ∷ xs) = ap (λ l. q.left ∷ l) (terms_items xs)
+terms_items (x ∷ xs) = terms_items xs
 
 terms_added : (xs : List Entry) → stated live_at xs ≡ added_by (term_adds xs) ++ stated live_at (from_schema xs)
 terms_added [] = refl
-terms_added (e.Law n q ∷ xs) = terms_added xs
-terms_added (e.Lemma n q steps ∷ xs) = terms_added xs
 terms_added (e.Spread c ∷ xs) = refl
 terms_added (e.Killed q steps ∷ xs) = refl
 terms_added (e.Live t ∷ xs) = ap (λ l. t ∷ l) (terms_added xs)
-terms_added (e.Moved q steps ∷ xs) = terms_added xs
+terms_added (x ∷ xs) = terms_added xs
 
 terms_themselves : (xs : List Entry) → AddThemselves (term_adds xs)
 terms_themselves [] = tt
-terms_themselves (e.Law n q ∷ xs) = terms_themselves xs
-terms_themselves (e.Lemma n q steps ∷ xs) = terms_themselves xs
 terms_themselves (e.Spread c ∷ xs) = tt
 terms_themselves (e.Killed q steps ∷ xs) = tt
 terms_themselves (e.Live t ∷ xs) = ((refl, tt), terms_themselves xs)
 terms_themselves (e.Moved q steps ∷ xs) = (tt, terms_themselves xs)
+terms_themselves (x ∷ xs) = terms_themselves xs
 
 -- what entries state with one more, that states nothing
 pub states_no_more : {A : Type 0} (f : Entry → List A) (before : List Entry) (x : Entry) → f x ≡ [] → stated f (before ++ x ∷ []) ≡ stated f before
 states_no_more f before x none = stated_parts f before (x ∷ []) ∙ ap (λ l. stated f before ++ (l ++ [])) none ∙ append-nil (stated f before)
+
+only_later : {A : Type 0} → ⊥ ⊎ A → A
+only_later (inl never) = absurd never
+only_later (inr at) = at
+
+first_or_later : {A : Type 0} {x y : A} {xs : List A} → (x ≡ y) ⊎ In x xs → In x (y ∷ xs)
+first_or_later {x = x} {xs = xs} (inl same) = subst (λ z. In x (z ∷ xs)) same here
+first_or_later (inr at) = there at
 
 -- the schema of the open block
 abbrev pub IsOpen : Option Block → Tree → Type 0
@@ -164,12 +154,11 @@ module _ (parts : SigParts) (pools : Pools) where
   -- where no block is open no term stands
   pub no_terms : (before xs : List Entry) → AllPass parts pools before None xs → terms_after xs ≡ []
   no_terms before [] h = refl
-  no_terms before (e.Law n q ∷ xs) h = no_terms (before ++ e.Law n q ∷ []) xs h.1
-  no_terms before (e.Lemma n q steps ∷ xs) h = no_terms (before ++ e.Lemma n q steps ∷ []) xs h.1
   no_terms before (e.Spread c ∷ xs) h = refl
   no_terms before (e.Killed q steps ∷ xs) h = refl
   no_terms before (e.Live t ∷ xs) h = absurd h.0.1
   no_terms before (e.Moved q steps ∷ xs) h = absurd h.0.1
+  no_terms before (x ∷ xs) h = no_terms (before ++ x ∷ []) xs h.1
 
   -- every term is of the open block or of a spread schema after it
   open_or_later : (before : List Entry) (block : Option Block) (xs : List Entry) → AllPass parts pools before block xs
@@ -177,17 +166,9 @@ module _ (parts : SigParts) (pools : Pools) where
   open_or_later before block [] h = tt
   open_or_later before block (e.Law n q ∷ xs) h = open_or_later (before ++ e.Law n q ∷ []) block xs h.1
   open_or_later before block (e.Lemma n q steps ∷ xs) h = open_or_later (before ++ e.Lemma n q steps ∷ []) block xs h.1
-  open_or_later before block (e.Spread c ∷ xs) h = each_map _ _ (λ t k. inr (by t k)) (stated term_at xs)
+  open_or_later before block (e.Spread c ∷ xs) h = each_map _ _ (λ t k. inr (first_or_later k)) (stated term_at xs)
       (open_or_later (before ++ e.Spread c ∷ []) (Some (record { schema = c; terms = [] })) xs h.1)
-    where
-      by : (t : Tree) → (schema_of t ≡ c) ⊎ In (schema_of t) (stated spread_at xs) → In (schema_of t) (c ∷ stated spread_at xs)
-      by t (inl same) = subst (λ z. In (schema_of t) (z ∷ stated spread_at xs)) same here
-      by t (inr at) = there at
-  open_or_later before block (e.Killed q steps ∷ xs) h = each_map _ _ (λ t k. inr (by t k)) (stated term_at xs) (open_or_later (before ++ e.Killed q steps ∷ []) None xs h.1)
-    where
-      by : (t : Tree) → ⊥ ⊎ In (schema_of t) (stated spread_at xs) → In (schema_of t) (stated spread_at xs)
-      by t (inl never) = absurd never
-      by t (inr at) = at
+  open_or_later before block (e.Killed q steps ∷ xs) h = each_map _ _ (λ t k. inr (only_later k)) (stated term_at xs) (open_or_later (before ++ e.Killed q steps ∷ []) None xs h.1)
   open_or_later before None (e.Live t ∷ xs) h = absurd h.0.1
   open_or_later before (Some block) (e.Live t ∷ xs) h =
       (inl h.0.1.is.schema, open_or_later (before ++ e.Live t ∷ []) (Some (record { schema = block.schema; terms = block.terms ++ t ∷ [] })) xs h.1)
@@ -198,20 +179,11 @@ module _ (parts : SigParts) (pools : Pools) where
   later_terms : (before : List Entry) (block : Option Block) (xs : List Entry) → AllPass parts pools before block xs
       → Each (λ t. In (schema_of t) (stated spread_at xs)) (stated term_at (from_schema xs))
   later_terms before block [] h = tt
-  later_terms before block (e.Law n q ∷ xs) h = later_terms (before ++ e.Law n q ∷ []) block xs h.1
-  later_terms before block (e.Lemma n q steps ∷ xs) h = later_terms (before ++ e.Lemma n q steps ∷ []) block xs h.1
-  later_terms before block (e.Spread c ∷ xs) h = each_map _ _ by (stated term_at xs) (open_or_later before None (e.Spread c ∷ xs) ((tt, h.0.1), h.1))
-    where
-      by : (t : Tree) → ⊥ ⊎ In (schema_of t) (c ∷ stated spread_at xs) → In (schema_of t) (c ∷ stated spread_at xs)
-      by t (inl never) = absurd never
-      by t (inr at) = at
-  later_terms before block (e.Killed q steps ∷ xs) h = each_map _ _ by (stated term_at xs) (open_or_later before None (e.Killed q steps ∷ xs) ((tt, h.0.1, h.0.2, h.0.3), h.1))
-    where
-      by : (t : Tree) → ⊥ ⊎ In (schema_of t) (stated spread_at xs) → In (schema_of t) (stated spread_at xs)
-      by t (inl never) = absurd never
-      by t (inr at) = at
+  later_terms before block (e.Spread c ∷ xs) h = each_map _ _ (λ t. only_later) (stated term_at xs) (open_or_later before None (e.Spread c ∷ xs) ((tt, h.0.1), h.1))
+  later_terms before block (e.Killed q steps ∷ xs) h = each_map _ _ (λ t. only_later) (stated term_at xs) (open_or_later before None (e.Killed q steps ∷ xs) ((tt, h.0.1, h.0.2, h.0.3), h.1))
   later_terms before block (e.Live t ∷ xs) h = later_terms (before ++ e.Live t ∷ []) (block_after parts pools block (e.Live t)) xs h.1
   later_terms before block (e.Moved q steps ∷ xs) h = later_terms (before ++ e.Moved q steps ∷ []) (block_after parts pools block (e.Moved q steps)) xs h.1
+  later_terms before block (x ∷ xs) h = later_terms (before ++ x ∷ []) block xs h.1
 
   -- what passes passes from any place on
   pub passes_from : (before : List Entry) (block : Option Block) (front rest : List Entry) → AllPass parts pools before block (front ++ rest)

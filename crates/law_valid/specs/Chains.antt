@@ -11,8 +11,8 @@ use Rattle.law_sig.specs.declared.parts.Equation.{Equation}
 use Rattle.law_sig.specs.declared.parts.SigParts.{SigParts}
 use Rattle.law_valid.specs.declared.certificate.Bind.{Bind}
 use Rattle.law_valid.specs.declared.certificate.Step.{Step}
-use Rattle.law_valid.specs.declared.certificate.Dir.{Dir}
-use Rattle.law_valid.specs.declared.certificate.Dir.TheVariants as dir
+use Rattle.law_cert.specs.declared.cert.Dir.{Dir}
+use Rattle.law_cert.specs.declared.cert.Dir.TheVariants as dir
 use Rattle.law_valid.specs.Stated.{numbered}
 
 -- Terms for variables
@@ -41,12 +41,12 @@ bound_in (b ∷ binds) sort index = if is_bound sort index b then b.term else bo
 
 -- the side that a step starts from, and the side that it leads to
 abbrev pub start_side : Dir → Equation → Tree
-start_side dir.Lr q = q.left
-start_side dir.Rl q = q.right
+start_side dir.LeftToRight q = q.left
+start_side dir.RightToLeft q = q.right
 
 abbrev pub end_side : Dir → Equation → Tree
-end_side dir.Lr q = q.right
-end_side dir.Rl q = q.left
+end_side dir.LeftToRight q = q.right
+end_side dir.RightToLeft q = q.left
 
 -- the second term is the first one with `to` in the place of `from`
 pub data Rewrites (from to : Tree) : List ℕ → Tree → Tree → Type 0 where

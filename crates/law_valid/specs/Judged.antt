@@ -10,6 +10,7 @@ use Rattle.law_sig.specs.declared.tree.SortId.{SortId}
 use Rattle.law_sig.specs.declared.tree.Tree.{Tree}
 use Rattle.law_sig.specs.declared.parts.Equation.{Equation}
 use Rattle.law_sig.specs.declared.parts.SigParts.{SigParts}
+use Rattle.law_gen.specs.Draws.{pools_by}
 use Rattle.law_valid.specs.declared.certificate.Branch.{Branch}
 use Rattle.law_valid.specs.declared.certificate.Branch.TheOpen.{Branch-F}
 use Rattle.law_valid.specs.declared.certificate.Branch.TheOpen as b
@@ -24,7 +25,7 @@ use Rattle.law_valid.specs.Stated.{stated, schema_at, spread_at, live_at, number
 use Rattle.law_valid.specs.Schemas.{IsConsidered, IsInstance}
 use Rattle.law_valid.specs.Splits.{Cut, leaves_of, cuts_of, AreApart}
 use Rattle.law_valid.specs.Trees.{value_of, of_schemas, HasSchemas, HasTerms, HasSpread, IsEarlierSort}
-use Rattle.law_valid.specs.Valid.{IsWithinLimits, ArePools, IsNumber, IsLemma, IsKilled, IsMoved}
+use Rattle.law_valid.specs.Valid.{IsWithinLimits, IsNextNumber, IsLemma, IsKilled, IsMoved}
 use Rattle.law_valid.specs.Expected.{IsFirstAbove, IsSpent}
 
 -- Answers
@@ -107,11 +108,11 @@ Entries parts pools close before block [] =
     (If (AreSchemasSpent parts before) (No r.V5 (entry_after before))
     close)
 Entries parts pools close before block (e.Law number q ∷ xs) =
-    If (IsNumber parts before number × HasSides parts q) (No r.V3 (entry_after before))
+    If (IsNextNumber parts before number × HasSides parts q) (No r.V3 (entry_after before))
     (AtTests parts pools r.V3 (entry_after before) q
     (Entries parts pools close (before ++ e.Law number q ∷ []) block xs))
 Entries parts pools close before block (e.Lemma number q steps ∷ xs) =
-    If (IsNumber parts before number × IsLemma parts before q steps) (No r.V4 (entry_after before))
+    If (IsNextNumber parts before number × IsLemma parts before q steps) (No r.V4 (entry_after before))
     (Entries parts pools close (before ++ e.Lemma number q steps ∷ []) block xs)
 Entries parts pools close before block (e.Spread c ∷ xs) =
     If (IsBlockSpent parts (stated live_at before) block) (No r.V7 (entry_after before))
@@ -202,6 +203,6 @@ InTrees parts pools all entry done (tree ∷ trees) =
 abbrev pub Judged : SigParts → Pools → List Entry → List SortTree → Answer → Type 0
 Judged parts pools entries trees =
     If (IsWithinLimits parts) (No r.V1 0)
-    (If (ArePools parts pools parts.settings.pools) (No r.V2 0)
+    (If (pools ≡ pools_by parts) (No r.V2 0)
     (Background parts pools parts.settings.background
     (Entries parts pools (InTrees parts pools entries (entry_after entries) [] trees) [] None entries)))

@@ -8,3 +8,5 @@ pub mod Coverage
 pub mod Expected
 pub mod Judged
 pub mod Checking
+pub mod Named
+pub mod Certificates

@@ -16,56 +16,37 @@ stated f (x ∷ xs) = f x ++ stated f xs
 abbrev pub equation_at : Entry → List Equation
 equation_at (e.Law n q) = q ∷ []
 equation_at (e.Lemma n q steps) = q ∷ []
-equation_at (e.Spread c) = []
-equation_at (e.Killed q steps) = []
-equation_at (e.Live t) = []
-equation_at (e.Moved q steps) = []
+equation_at x = []
 
 -- the laws alone
 abbrev pub law_at : Entry → List Equation
 law_at (e.Law n q) = q ∷ []
-law_at (e.Lemma n q steps) = []
-law_at (e.Spread c) = []
-law_at (e.Killed q steps) = []
-law_at (e.Live t) = []
-law_at (e.Moved q steps) = []
+law_at x = []
 
 -- the schemas: those that are spread, and those of killed ones
 abbrev pub schema_at : Entry → List Tree
-schema_at (e.Law n q) = []
-schema_at (e.Lemma n q steps) = []
 schema_at (e.Spread c) = c ∷ []
 schema_at (e.Killed q steps) = schema_of q.left ∷ []
-schema_at (e.Live t) = []
-schema_at (e.Moved q steps) = []
+schema_at x = []
 
 -- the spread schemas alone
 abbrev pub spread_at : Entry → List Tree
-spread_at (e.Law n q) = []
-spread_at (e.Lemma n q steps) = []
 spread_at (e.Spread c) = c ∷ []
-spread_at (e.Killed q steps) = []
-spread_at (e.Live t) = []
-spread_at (e.Moved q steps) = []
+spread_at x = []
 
 -- the live terms
 abbrev pub live_at : Entry → List Tree
-live_at (e.Law n q) = []
-live_at (e.Lemma n q steps) = []
-live_at (e.Spread c) = []
-live_at (e.Killed q steps) = []
 live_at (e.Live t) = t ∷ []
-live_at (e.Moved q steps) = []
+live_at x = []
 
 -- the terms, live or moved, up to the next schema
 abbrev pub terms_after : List Entry → List Tree
 terms_after [] = []
-terms_after (e.Law n q ∷ xs) = terms_after xs
-terms_after (e.Lemma n q steps ∷ xs) = terms_after xs
 terms_after (e.Spread c ∷ xs) = []
 terms_after (e.Killed q steps ∷ xs) = []
 terms_after (e.Live t ∷ xs) = t ∷ terms_after xs
 terms_after (e.Moved q steps ∷ xs) = q.left ∷ terms_after xs
+terms_after (x ∷ xs) = terms_after xs
 
 -- the equations that chains may name, in the order of their numbers: the background, then laws and lemmas
 abbrev pub known : SigParts → List Entry → List Equation

@@ -9,11 +9,9 @@ use Rattle.law_sig.specs.Order.{IsBefore}
 use Rattle.law_sig.specs.Laws.{IsLaw}
 use Rattle.law_sig.specs.declared.tree.SortId.{SortId}
 use Rattle.law_sig.specs.declared.parts.Equation.{Equation}
-use Rattle.law_sig.specs.declared.parts.PoolRule.{PoolRule}
-use Rattle.law_sig.specs.declared.parts.PoolRule.TheVariants as rule
 use Rattle.law_sig.specs.declared.parts.SigParts.{SigParts}
 use Rattle.law_laws.specs.Filling.{IsNumbered}
-use Rattle.law_gen.specs.Draws.{seeded_pools}
+use Rattle.law_gen.specs.Draws.{pools_by}
 use Rattle.law_gen.specs.Sizes.{AreSmall}
 use Rattle.law_valid.specs.declared.certificate.Entry.{Entry}
 use Rattle.law_valid.specs.declared.certificate.Entry.TheVariants as e
@@ -26,16 +24,12 @@ use Rattle.law_valid.specs.Trees.{AreTrees}
 
 -- Before the entries
 
--- well-formed, the variables can be given places in at most 4,096 ways, and no generated value has more than 4,096 nodes
+-- well-formed, the variables can be given places in at most 4,096 ways, and no value has more than 4,096 nodes, which given
+-- ones never have
 pub record IsWithinLimits (parts : SigParts) : Type 0 where
   pub well_formed : IsWellFormed parts
   pub few_assignments : assignments parts ≤ 4096
-  pub small_values : Each (Each AreSmall) (seeded_pools parts)
-
--- the pools that the signature gives, or those of its seed
-abbrev pub ArePools : SigParts → Pools → PoolRule → Type 0
-ArePools parts pools (rule.Given values) = pools ≡ values
-ArePools parts pools (rule.Seeded seed height count) = pools ≡ seeded_pools parts
+  pub small_values : Each (Each AreSmall) (pools_by parts)
 
 -- each background equation holds at every test
 abbrev pub IsBackgroundTrue : SigParts → Pools → Type 0
@@ -44,8 +38,8 @@ IsBackgroundTrue parts pools = Each (λ (q : Equation). Agrees parts pools q.lef
 -- Entries, each by those before it
 
 -- equation numbers run on from the background
-abbrev pub IsNumber : SigParts → List Entry → ℕ → Type 0
-IsNumber parts before number = number ≡ length (known parts before) + 1
+abbrev pub IsNextNumber : SigParts → List Entry → ℕ → Type 0
+IsNextNumber parts before number = number ≡ length (known parts before) + 1
 
 -- both sides are well-sorted, of one sort; the chain leads from left to right by equations before it
 pub record IsLemma (parts : SigParts) (before : List Entry) (q : Equation) (steps : List Step) : Type 0 where
@@ -74,18 +68,18 @@ pub record IsMoved (parts : SigParts) (before : List Entry) (q : Equation) (step
 -- all live terms of the certificate, after a killed one no term; and a killed schema and a moved term have their target's
 -- value at every test
 abbrev pub IsEntry : SigParts → Pools → List Entry → List Entry → Entry → List Entry → Type 0
-IsEntry parts pools all before (e.Law number q) after = IsNumber parts before number × IsLaw parts pools q
-IsEntry parts pools all before (e.Lemma number q steps) after = IsNumber parts before number × IsLemma parts before q steps
+IsEntry parts pools all before (e.Law number q) after = IsNextNumber parts before number × IsLaw parts pools q
+IsEntry parts pools all before (e.Lemma number q steps) after = IsNextNumber parts before number × IsLemma parts before q steps
 IsEntry parts pools all before (e.Spread c) after = AreExactly parts (IsInstance parts (stated live_at all) c) (terms_after after)
 IsEntry parts pools all before (e.Killed q steps) after = IsKilled parts before q steps × Agrees parts pools q.left q.right × (terms_after after ≡ [])
 IsEntry parts pools all before (e.Live t) after = Unit {0}
 IsEntry parts pools all before (e.Moved q steps) after = IsMoved parts before q steps × Agrees parts pools q.left q.right
 
--- The whole certificate: the schema entries are exactly the schemas that are considered over its own spread ones, and no
--- term stands before the first of them
+-- The whole certificate: its pools are those that the signature gives, or those of its seed; the schema entries are exactly
+-- the schemas that are considered over its own spread ones, and no term stands before the first of them
 pub record IsValid (parts : SigParts) (pools : Pools) (entries : List Entry) (trees : List SortTree) : Type 0 where
   pub limits : IsWithinLimits parts
-  pub pools_are : ArePools parts pools parts.settings.pools
+  pub pools_are : pools ≡ pools_by parts
   pub background : IsBackgroundTrue parts pools
   pub schemas : AreExactly parts (IsConsidered parts (stated spread_at entries)) (stated schema_at entries)
   pub first : terms_after entries ≡ []

@@ -1,3 +1,4 @@
+use law_cert::Dir;
 use law_sig::{Equation, Seq, SortId, Tree};
 
 /// The term that a variable stands for.
@@ -6,13 +7,6 @@ pub struct Bind {
     pub sort: SortId,
     pub index: u32,
     pub term: Tree,
-}
-
-/// From the left side of an equation to the right one, or from right to left.
-#[derive(Clone, Copy, Debug, PartialEq, Eq)]
-pub enum Dir {
-    Lr,
-    Rl,
 }
 
 /// One replacement: at a place, by the equation with this number, with a term for each of its variables. A place is

@@ -1,3 +1,4 @@
+ghost use Rattle.law_valid.specs.Certificates.{CertCovers, CertYesIsValid, OneCertAnswer, OneReading, SpelledMeans};
 ghost use Rattle.law_valid.specs.Checking.{YesIsValid, OneAnswer};
 ghost use Rattle.law_valid.specs.Coverage.{ChainsDerive, ValidCovers};
 
@@ -11,4 +12,15 @@ pub fn coverage_laws()
 pub fn checking_laws()
     ensures exact { YesIsValid }
     ensures one { OneAnswer }
+{}
+
+/// The same of a certificate by its names: its laws cover, and the order of checking finds nothing wrong exactly where it
+/// is valid, and has one answer at most. The lines of its trees have one reading; and each that the grammar spells has
+/// one, where its first lines state a signature.
+pub fn certificate_laws()
+    ensures covers { CertCovers }
+    ensures exact { CertYesIsValid }
+    ensures one { OneCertAnswer }
+    ensures reading { OneReading }
+    ensures spelled { SpelledMeans }
 {}

@@ -1,0 +1,34 @@
+-- Laws of certificates by their names.
+use Rattle.std.specs.Prelude.{◌≡◌, ◌↔◌, List}
+use Rattle.law_sig.specs.Laws.{IsCovered}
+use Rattle.law_sig.specs.declared.parts.SigParts.{SigParts}
+use Rattle.law_cert.specs.declared.cert.Cert.{Cert}
+use Rattle.law_cert.specs.declared.cert.SortTree.{SortTree as WrittenTree}
+use Rattle.law_cert.specs.Certificates.{IsCertText}
+use Rattle.law_types.specs.Typed.{IsTypedAs}
+use Rattle.law_valid.specs.declared.certificate.SortTree.{SortTree}
+use Rattle.law_valid.specs.Stated.{stated, law_at}
+use Rattle.law_valid.specs.Judged.{Answer}
+use Rattle.law_valid.specs.Judged.Answer.{Yes}
+use Rattle.law_valid.specs.Named.{pools_named, entries_named, AreTreesOf, Meaning, IsValidCert, JudgedCert}
+
+-- the laws of a valid certificate cover its signature's universe, by its own pools
+abbrev pub CertCovers : Type 0
+CertCovers = (cert : Cert) (v : IsValidCert cert)
+    → IsCovered v.means.parts (pools_named v.means.parts cert.pools) (stated law_at (entries_named v.means.parts cert.entries))
+
+-- nothing is found wrong exactly where it is valid
+abbrev pub CertYesIsValid : Type 0
+CertYesIsValid = (cert : Cert) → JudgedCert cert Yes ↔ IsValidCert cert
+
+-- its lines have one reading as trees
+abbrev pub OneReading : Type 0
+OneReading = (parts : SigParts) (raws : List WrittenTree) (trees others : List SortTree) → AreTreesOf parts raws trees → AreTreesOf parts raws others → trees ≡ others
+
+-- a certificate that the grammar spells, and whose lines state a signature, states something over it
+abbrev pub SpelledMeans : Type 0
+SpelledMeans = (cert : Cert) (parts : SigParts) → IsCertText cert → IsTypedAs cert.sig parts → (m : Meaning cert) × (m.parts ≡ parts)
+
+-- there is at most one answer
+abbrev pub OneCertAnswer : Type 0
+OneCertAnswer = (cert : Cert) (a b : Answer) → JudgedCert cert a → JudgedCert cert b → a ≡ b
