@@ -20,3 +20,4 @@ pub mod KnownFacts
 pub mod VectorsTell
 pub mod RefusalFacts
 pub mod ListedFacts
+pub mod Spelled
