@@ -20,4 +20,5 @@ pub mod KnownFacts
 pub mod VectorsTell
 pub mod RefusalFacts
 pub mod ListedFacts
+pub mod NameFacts
 pub mod Spelled

@@ -1,5 +1,5 @@
 -- The law list by its names is one that the grammar spells.
-use Rattle.std.proofs.Common.{◌≡◌, ℕ, zero, suc, ◌+◌, ◌^◌, ◌<◌, ◌≤◌, max, Bool, true, false, ◌&&◌, nat_lt, nat_le, ltb-true, lt-ltb, le-leb, Some, slice_index_or, List, [], ◌∷◌, length, map, sym, refl, ap, ap₂, ◌∙◌, subst, arith}
+use Rattle.std.proofs.Common.{◌≡◌, ℕ, zero, suc, ◌+◌, ◌-◌, ◌^◌, ◌<◌, ◌≤◌, max, Bool, true, false, ◌&&◌, nat_lt, nat_le, ltb-true, lt-ltb, le-leb, Some, option_map, slice_get, slice_index_or, List, [], ◌∷◌, length, map, sym, refl, ap, ap₂, ◌∙◌, subst, arith}
 use Rattle.std.specs.List.{list_all, AllByRecursion}
 use Rattle.std.proofs.lemmas.List.{length-map}
 use Rattle.std.proofs.lemmas.Option.{slice_get_within}
@@ -39,18 +39,16 @@ use Rattle.law_read.specs.declared.raw.RawTerm.TheFolds.{fold-roll-RawTerm}
 use Rattle.law_read.specs.declared.raw.RawLine.{RawLine}
 use Rattle.law_types.specs.Naming.{sort_name, symbol_name, raw_term, named_term, name_step}
 use Rattle.law_types.specs.Typed.{HasFewSorts}
-use Rattle.law_types.proofs.Spelled.{name_same, named_nodes, named_depth}
-use Rattle.law_pool.proofs.GivenFacts.{have_count}
-use Rattle.law_gen.specs.Draws.{sorts_in, fits_over, choices, chosen, Drawn, in_turn, value_drawn, values_drawn, sorts_of, pool_drawn, pools_drawn, generator_of, pools_from, pools_by}
+use Rattle.law_explore.proofs.NameFacts.{name_same, named_nodes, named_depth}
+use Rattle.law_gen.specs.Draws.{choices, chosen, Drawn, in_turn, value_drawn, values_drawn, sorts_of, pool_drawn, pools_drawn, generator_of, pools_from, pools_by}
 use Rattle.law_gen.specs.Sizes.{AreSmall}
-use Rattle.law_gen.proofs.ChoiceFacts.{there_within}
-use Rattle.law_gen.proofs.DrawFacts.{above_zero, chosen_open, each_true, in_turn_length}
-use Rattle.law_gen.proofs.PoolFacts.{length_first, pools_count}
+use Rattle.law_gen.proofs.DrawFacts.{above_zero, chosen_within, drawing, in_turn_length}
+use Rattle.law_gen.proofs.PoolFacts.{pools_count}
 use Rattle.law_cert.specs.declared.cert.LawList.{LawList}
 use Rattle.law_cert.specs.Certificates.{IsWritten, IsValues, IsPlainLaw, IsListText}
 use Rattle.law_cert.specs.Certificates as text
-use Rattle.law_explore.specs.LawList.{IsLawListOf}
-use Rattle.law_explore.specs.Named.{named_values, named_pools, named_laws, named_list, HasFewLaws, IsListing}
+use Rattle.law_explore.specs.Refusals.{HasSmallValues}
+use Rattle.law_explore.specs.Named.{named_values, named_pools, named_laws, named_list, HasFewLaws}
 
 -- Lists
 
@@ -68,7 +66,20 @@ each_first : {A : Type 0} (P : A → Type 0) (n : ℕ) (f : ℕ → A) → ((i :
 each_first P zero f have = tt
 each_first P (suc n) f have = (have 0 (omega arith), each_first P n (λ i. f (suc i)) (λ i less. have (suc i) (omega arith)))
 
--- Names
+length_first : {A : Type 0} (n : ℕ) (f : ℕ → A) → length (first_of n f) ≡ n
+length_first zero f = refl
+length_first (suc n) f = ap suc (length_first n (λ i. f (suc i)))
+
+have_count : (parts : SigParts) (ts : List Tree) (ws : List SortId) → HaveSorts parts ts ws → length ts ≡ length ws
+have_count parts [] [] h = refl
+have_count parts [] (w ∷ ws) h = absurd h
+have_count parts (t ∷ ts) [] h = absurd h
+have_count parts (t ∷ ts) (w ∷ ws) h = ap suc (have_count parts ts ws h.1)
+
+found : {A : Type 0} (xs : List A) (at : ℕ) → at < length xs → (x : A) × (slice_get xs at ≡ Some x)
+found [] at less = absurd (omega arith)
+found (x ∷ xs) zero less = (x, refl)
+found (x ∷ xs) (suc at) less = found xs at (omega arith)
 
 sort_spelled : (parts : SigParts) → IsWellFormed parts → (n : ℕ) → n < length parts.sort_names → is_name_in Kept (sort_name parts (record { 0 = n })) ≡ true
 sort_spelled parts well n less = name_same (slice_index_or parts.sort_names n []) ∙ each_within (λ name. is_name name ≡ true) parts.sort_names n [] less well.sort_names.spelled
@@ -195,7 +206,7 @@ laws_spelled : (parts : SigParts) (pools : Pools) → IsWellFormed parts → (nu
     → AllByRecursion IsPlainLaw (named_laws parts number laws)
 laws_spelled parts pools well number [] few have = tt
 laws_spelled parts pools well number (e ∷ es) few have = (
-  (omega arith, (tt, (side_spelled parts well have.0.sort e.left have.0.left, side_spelled parts well have.0.sort e.right have.0.right))),
+  (omega arith, tt, side_spelled parts well have.0.sort e.left have.0.left, side_spelled parts well have.0.sort e.right have.0.right),
   laws_spelled parts pools well (suc number) es (omega arith) have.1,
 )
 
@@ -248,26 +259,30 @@ lowest n (t ∷ ts) have = omega (arith, have.0, lowest n ts have.1)
 drawn_fine : (parts : SigParts) → IsWellFormed parts → (n : ℕ) (sort : SortId) (g : Lcg) → is_within_height parts n sort ≡ true → IsDrawnFine parts n (value_drawn parts n sort g).made
 drawn_fine parts well zero sort g within = let some = above_zero parts zero sort within in absurd (omega arith)
 drawn_fine parts well (suc n) sort g within =
-    let f = chosen (choices parts (suc n) sort) (pcg32 g).0 in
-    let o = chosen_open parts n sort (pcg32 g).0 within in
-    let fields = in_turn (value_drawn parts n) (sorts_in (symbol_at parts f)) (pcg32 g).1 in
-    let each = drawn_on (λ s. is_within_height parts n s ≡ true) (IsDrawnFine parts n) (value_drawn parts n) (drawn_fine parts well n) (sorts_in (symbol_at parts f)) (pcg32 g).1
-        (each_true (is_within_height parts n) (sorts_in (symbol_at parts f)) o.fits) in
-    let few : length fields.made ≤ 8 =
-        subst (λ k. k ≤ 8) (sym (in_turn_length (value_drawn parts n) (sorts_in (symbol_at parts f)) (pcg32 g).1 ∙ ap (λ s. length (sorts_in s)) o.there))
-        (well.symbols f o.symbol o.there).args_bound in
-    record {
-      fits = app_fits Value parts well f fields.made (there_within parts.symbols f.0 o.symbol o.there) few
+    let less_one : suc n - 1 ≡ n = omega arith in
+    let among = choices parts (suc n) sort in
+    let (word, after) = pcg32 g in
+    let f = chosen among word in
+    let less = chosen_within parts (suc n) sort among word within refl in
+    let (symbol, there) = found parts.symbols f.0 less in
+    let sorts = args_of symbol in
+    let drawn = drawing parts (suc n) sort g after among word sorts well within refl refl refl (ap (option_map args_of) there) in
+    let fields = in_turn (value_drawn parts n) sorts after in
+    let each = drawn_on (λ s. is_within_height parts n s ≡ true) (IsDrawnFine parts n) (value_drawn parts n) (drawn_fine parts well n) sorts after
+        (subst (λ m. Each (λ s. is_within_height parts m s ≡ true) sorts) less_one drawn.within) in
+    let made = subst (λ m. (value_drawn parts (suc n) sort g).made ≡ App f (in_turn (value_drawn parts m) sorts after).made) less_one drawn.made in
+    subst (IsDrawnFine parts (suc n)) (sym made) (record {
+      fits = app_fits Value parts well f fields.made less (subst (λ k. k ≤ 8) (sym (in_turn_length (value_drawn parts n) sorts after)) drawn.few)
           (each_map (IsDrawnFine parts n) (Fits Value parts) (λ v h. h.fits) fields.made each);
       low = omega (arith, depth-App f fields.made, lowest n fields.made (each_map (IsDrawnFine parts n) (λ v. depth v ≤ n) (λ v h. h.low) fields.made each));
-    }
+    })
 
 drawn_values : (parts : SigParts) → IsWellFormed parts → (seed height count : ℕ) → IsSeeded parts seed height count → (s : SortId) (g : Lcg) → IsDeclared parts s
     → AreFine parts (values_drawn parts height s g).made
 drawn_values parts well seed height count is s g declared =
     let places = first_of (width_at parts s) (λ place. s) in
     record {
-      some = omega (arith, in_turn_length (value_drawn parts height) places g, length_first (width_at parts s) (λ place. s), some_width parts well s);
+      some = subst (λ n. 0 < n) (sym (in_turn_length (value_drawn parts height) places g ∙ length_first (width_at parts s) (λ place. s))) (omega (arith, some_width parts well s));
       each = drawn_on (IsDeclared parts) (IsFine parts) (value_drawn parts height)
           (λ sort h k. let fine = drawn_fine parts well height sort h (is.high_enough sort k) in record { fits = fine.fits; low = omega (arith, fine.low, is.height_range.1) })
           places g (each_first (IsDeclared parts) (width_at parts s) (λ place. s) (λ i less. declared));
@@ -292,7 +307,7 @@ fine_from parts (rule.Given pools) well is = record {
   each = each_map (IsPool parts) (IsFinePool parts) (λ pool k. record { count = k.sorts; each = given_from parts well 0 pool k.values }) pools is.each_pool;
 }
 fine_from parts (rule.Seeded seed height count) well is = record {
-  some = omega (arith, pools_count parts height count (generator_of seed), is.count_range.0);
+  some = subst (λ n. 0 < n) (sym (pools_count parts height count (generator_of seed))) (omega (arith, is.count_range.0));
   each = drawn_on (λ (number : ℕ). number < count) (IsFinePool parts) (λ (number : ℕ). pool_drawn parts height)
       (λ number g less. drawn_pool parts well seed height count is g) (first_of count (λ number. number)) (generator_of seed)
       (each_first (λ (number : ℕ). number < count) count (λ number. number) (λ i less. less));
@@ -314,7 +329,7 @@ values_spelled : (parts : SigParts) → IsWellFormed parts → (n : ℕ) (pool :
     → AllByRecursion IsValues (named_values parts n pool)
 values_spelled parts well n [] within fine small = tt
 values_spelled parts well n (values ∷ pool) within fine small = (
-  (sort_spelled parts well n (omega arith), (omega (arith, length-map values (named_term parts), fine.0.some), are_values parts values fine.0.each small.0)),
+  (sort_spelled parts well n (omega arith), subst (λ k. 0 < k) (sym (length-map values (named_term parts))) fine.0.some, are_values parts values fine.0.each small.0),
   values_spelled parts well (suc n) pool (omega arith) fine.1 small.1,
 )
 
@@ -334,20 +349,15 @@ pools_spelled parts well (pool ∷ pools) fine small = (
 
 -- The whole list
 
-list_spelled : (lines : List RawLine) (parts : SigParts) (terms : ℕ) (pools : Pools) (laws : List Equation) → IsRawSig lines → IsWellFormed parts
-    → IsLawListOf parts terms pools laws → HasFewLaws parts laws → IsListText (named_list lines parts pools laws)
-list_spelled lines parts terms pools laws raw well list few =
-    let fine = fine_pools parts pools well list.pools_are in
-    record {
+pub list_spelled : (lines : List RawLine) (parts : SigParts) (pools : Pools) (laws : List Equation) (list : LawList) → IsRawSig lines → IsWellFormed parts → pools ≡ pools_by parts
+    → HasSmallValues parts → Each (IsLaw parts pools) laws → HasFewLaws parts laws → list ≡ named_list lines parts pools laws → IsListText list
+list_spelled lines parts pools laws list raw well are small holds few is =
+    let fine = fine_pools parts pools well are in
+    subst IsListText (sym is) (record {
       sig = raw;
       pools = record {
-        some = omega (arith, length-map pools (named_values parts 0), fine.some);
-        each = pools_spelled parts well pools fine.each (subst (Each (Each AreSmall)) (sym list.pools_are) list.within.small);
+        some = subst (λ n. 0 < n) (sym (length-map pools (named_values parts 0))) fine.some;
+        each = pools_spelled parts well pools fine.each (subst (Each (Each AreSmall)) (sym are) small);
       };
-      laws = laws_spelled parts pools well (length parts.settings.background + 1) laws (omega (arith, few)) list.covered.laws_hold;
-    }
-
-pub listing : (lines : List RawLine) (parts : SigParts) (terms : ℕ) (pools : Pools) (laws : List Equation) (list : LawList) → IsRawSig lines → IsWellFormed parts
-    → IsLawListOf parts terms pools laws → HasFewLaws parts laws → list ≡ named_list lines parts pools laws → IsListing lines parts terms list
-listing lines parts terms pools laws list raw well of few is =
-    record { pools = pools; laws = laws; list_of = of; named = is; spelled = subst IsListText (sym is) (list_spelled lines parts terms pools laws raw well of few) }
+      laws = laws_spelled parts pools well (length parts.settings.background + 1) laws (omega (arith, few)) holds;
+    })

@@ -1,7 +1,12 @@
 ghost use Rattle.std.specs.Prelude.{◌≡◌, ◌+◌, ◌^◌, ◌<◌, ◌↔◌, length, map, IfOk, IsTrue};
 ghost use Rattle.law_sig.specs.Lists.{Each};
+ghost use Rattle.law_sig.specs.Laws.{IsLaw};
+ghost use Rattle.law_read.specs.Signature.{IsRawSig};
 ghost use Rattle.law_types.specs.Naming.{named_term};
 ghost use Rattle.law_types.specs.Typed.{HasFewSorts};
+ghost use Rattle.law_gen.specs.Draws.{pools_by};
+ghost use Rattle.law_cert.specs.Certificates.{IsListText};
+ghost use Rattle.law_explore.specs.Refusals.{HasSmallValues};
 ghost use Rattle.law_explore.specs.Named.{HasFewLaws, named_laws, named_list, named_pools, named_values};
 
 use law_cert::{Entry, LawList, Mark, RawValues};
@@ -10,7 +15,8 @@ use law_sig::{Equation, NoMemory, Seq, Sig, SortId, Tree};
 use law_types::{name_of_sort, raw_term};
 use std::alloc::Global;
 
-/// The law list with its pools and laws by their names. More laws than can be numbered are more than memory holds.
+/// The law list with its pools and laws by their names, which the grammar spells. More laws than can be numbered are more
+/// than memory holds.
 pub fn named_list(
     alloc: Global,
     raw: RawSig,
@@ -18,9 +24,12 @@ pub fn named_list(
     pools: &[Seq<Seq<Tree>>],
     laws: &[Equation],
 ) -> Result<LawList, NoMemory>
-    requires { Each HasFewSorts pools.now }
+    requires signature { IsRawSig raw }
+    requires pools { pools.now ≡ pools_by sig.now }
+    requires small { HasSmallValues sig.now }
+    requires laws { Each (IsLaw sig.now pools.now) laws.now }
     ensures named { IfOk result (λ list. list ≡ named_list raw sig.now pools.now laws.now) }
-    ensures few { IfOk result (λ list. HasFewLaws sig.now laws.now) }
+    ensures spelled { IfOk result IsListText }
 {
     let background = sig.settings().background.len();
     if !can_number(background as u64, laws.len() as u64) {

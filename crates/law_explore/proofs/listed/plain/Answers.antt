@@ -1,9 +1,12 @@
-use Rattle.std.proofs.Common.{◌∙◌}
-use Rattle.law_explore.proofs.Spelled.{few_sorts, listing}
+use Rattle.std.proofs.Common.{ap₂, ◌∙◌}
+use Rattle.law_explore.specs.Named.{named_list}
 use Rattle.law_explore.proofs.listed.plain.Goals as goal
 
-pub named_list-requires : goal.named_list-requires
-named_list-requires c = ?
-
 pub returns-clause-listed : goal.returns-clause-listed
-returns-clause-listed c = ?
+returns-clause-listed c = record {
+  pools = c.in_ok-pools.field-0.pools;
+  laws = c.in_ok-pools.field-0.laws;
+  list_of = c.in_ok-pools.ensures.listed;
+  named = c.in_ok-named_list.ensures.named ∙ ap₂ (named_list c.args.raw c.args.sig.now) c.as_slice.ensures c.as_slice-2.ensures;
+  spelled = c.in_ok-named_list.ensures.spelled;
+}
