@@ -69,12 +69,6 @@ fun_weights_back parts k (sym.Con con ∷ symbols) rows h = fun_weights_back par
 fun_weights_back parts k (sym.Fun fun ∷ symbols) [] h = absurd h
 fun_weights_back parts k (sym.Fun fun ∷ symbols) (r ∷ rows) h = ap₂ ◌∷◌ (ap short h.0.weight) (fun_weights_back parts (suc k) symbols rows h.1)
 
-no_case_behind : (es : List SidesRow) (ps : PoolRows) → case_names (background_then es (pool_lines ps)) ≡ []
-no_case_behind (e ∷ es) ps = refl
-no_case_behind [] (seeded s h c) = refl
-no_case_behind [] (given []) = refl
-no_case_behind [] (given (p ∷ ps)) = refl
-
 module _ (text : Whole) (parts : SigParts) (formed : IsWellFormed parts) (declared : Declares text parts) where
   -- Background and pools
 
