@@ -1,6 +1,6 @@
 -- A table that finds the first place of each name, after one more name.
 use Rattle.std.proofs.Common.{◌≡◌, ℕ, ◌+◌, List, [], ◌∷◌, ◌++◌, length, Bool, true, false, cond, Option, Some, None, refl, sym, ap, ◌∙◌, arith, true≢false, is_some, nat_eq, eqb-true, eq-eqb, ap₂, ◌&&◌}
-use Rattle.std.specs.Prelude.{Vec, vec_items, bytes_eq}
+use Rattle.std.specs.Prelude.{Vec, vec_items}
 use Rattle.std.specs.Map.{lookup}
 use Rattle.std.specs.List.{position_from}
 use Rattle.std.specs.Option.{option_or}

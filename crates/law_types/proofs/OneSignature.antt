@@ -29,9 +29,8 @@ use Rattle.law_types.specs.Stated.{short, stated_tree, stated_body, stated_case,
 use Rattle.law_types.specs.Typed.{Version, IsTypedAs, functions_from}
 use Rattle.law_types.specs.declared.whole.Whole.{Whole}
 use Rattle.law_types.proofs.SideFacts.{Declares}
-use Rattle.law_types.proofs.Laid.{Rules, FunRow, SidesRow, PoolRows, Layout, cases_then, rules_then, funs_then, pool_lines, background_then, tail_lines, layout_lines}
+use Rattle.law_types.proofs.Laid.{Rules, FunRow, Layout, cases_then, rules_then, funs_then, tail_lines, layout_lines}
 use Rattle.law_types.proofs.Laid.Rules.{single, matching}
-use Rattle.law_types.proofs.Laid.PoolRows.{given, seeded}
 use Rattle.law_types.proofs.Told.{told_weights, told_explored, told_background, told_size, told_budget, told_pairs, told_pools, told_symbols, stated_sides, stated_row, stated_pool_rule, con_sym, con_syms, fun_sym, fun_syms}
 use Rattle.law_types.proofs.States.{short_is}
 use Rattle.law_types.proofs.Blocks.{sort_no, nums}
