@@ -8,8 +8,8 @@ use Rattle.law_cert.specs.Certificates.{IsCertText}
 use Rattle.law_types.specs.Typed.{IsTypedAs}
 use Rattle.law_valid.specs.declared.certificate.SortTree.{SortTree}
 use Rattle.law_valid.specs.Stated.{stated, law_at}
-use Rattle.law_valid.specs.Judged.{Answer}
-use Rattle.law_valid.specs.Judged.Answer.{Yes}
+use Rattle.law_valid.specs.declared.rule.Answer.{Answer}
+use Rattle.law_valid.specs.declared.rule.Answer.TheVariants.{Yes}
 use Rattle.law_valid.specs.Named.{pools_named, entries_named, AreTreesOf, Meaning, IsValidCert, JudgedCert}
 
 -- the laws of a valid certificate cover its signature's universe, by its own pools
