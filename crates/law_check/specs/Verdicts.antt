@@ -1,5 +1,6 @@
 -- What a checker says of a certificate.
-use Rattle.std.specs.Prelude.{◌≡◌, ◌↔◌, ℕ, List, [], ◌∷◌, length, Bool, true, false, if◌then◌else◌}
+use Rattle.std.specs.Prelude.{◌≡◌, ℕ, List, length, Bool, true, false}
+use Rattle.std.specs.List.{filter}
 use Rattle.law_sig.specs.Laws.{IsCovered}
 use Rattle.law_sig.specs.declared.tree.Tree.{Tree}
 use Rattle.law_cert.specs.declared.cert.Cert.{Cert}
@@ -34,14 +35,9 @@ abbrev pub is_killed : Entry → Bool
 is_killed (e.Killed general target steps) = true
 is_killed x = false
 
--- the entries of one kind
-abbrev pub those : (Entry → Bool) → List Entry → List Entry
-those is [] = []
-those is (x ∷ xs) = if is x then x ∷ those is xs else those is xs
-
 -- how many entries there are of each kind
 abbrev pub counted : List Entry → Counts
-counted xs = record { laws = length (those is_law xs); live = length (those is_live xs); moved = length (those is_moved xs); killed = length (those is_killed xs) }
+counted xs = record { laws = length (filter is_law xs); live = length (filter is_live xs); moved = length (filter is_moved xs); killed = length (filter is_killed xs) }
 
 -- Verdicts
 
