@@ -11,7 +11,8 @@ use Rattle.law_types.proofs.OneSignature.{one_signature}
 use Rattle.law_types.proofs.TreeOfFacts.{number_again, found_again}
 use Rattle.law_cert.specs.declared.cert.Cert.{Cert}
 use Rattle.law_valid.specs.declared.certificate.SortTree.{SortTree}
-use Rattle.law_valid.specs.Judged.{Answer, Judged}
+use Rattle.law_valid.specs.Judged.{Judged}
+use Rattle.law_valid.specs.declared.rule.Answer.{Answer}
 use Rattle.law_valid.specs.Named.{sort_named, term_named, pools_named, entries_named, AreTreesOf, Meaning, JudgedCert}
 use Rattle.law_valid.proofs.Reading.{one_reading}
 use Rattle.law_valid.proofs.Verdicts.{one_answer}

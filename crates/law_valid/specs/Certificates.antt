@@ -13,8 +13,8 @@ use Rattle.law_types.specs.Naming.{sort_name, named_term}
 use Rattle.law_types.specs.Typed.{IsTypedAs}
 use Rattle.law_valid.specs.declared.certificate.SortTree.{SortTree}
 use Rattle.law_valid.specs.Stated.{stated, law_at}
-use Rattle.law_valid.specs.Judged.{Answer}
-use Rattle.law_valid.specs.Judged.Answer.{Yes}
+use Rattle.law_valid.specs.declared.rule.Answer.{Answer}
+use Rattle.law_valid.specs.declared.rule.Answer.TheVariants.{Yes}
 use Rattle.law_valid.specs.Named.{sort_named, term_named, pools_named, entries_named, AreTreesOf, Meaning, IsValidCert, JudgedCert}
 
 -- the laws of a valid certificate cover its signature's universe, by its own pools

@@ -1,7 +1,7 @@
 -- Each law is proved by a lemma.
 use Rattle.std.proofs.Common.{inl, inr}
 use Rattle.law_cert.specs.declared.cert.Cert.{Cert}
-use Rattle.law_valid.specs.Judged.{Yes}
+use Rattle.law_valid.specs.declared.rule.Answer.TheVariants.{Yes}
 use Rattle.law_valid.specs.Named.{pools_named, entries_named, IsValidCert, JudgedCert}
 use Rattle.law_valid.proofs.Covered.{covers}
 use Rattle.law_valid.proofs.Passing.{never_no}
