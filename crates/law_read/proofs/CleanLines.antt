@@ -77,4 +77,4 @@ pub line_read_law : SpelledIsRead
 line_read_law stage line a v h =
     let c = clean_joined (line_words line) (clean_words line h) in
     in_order (list_all is_printed (line_spelling line)) (is_spaced (line_spelling line)) (is_closed_by stage.last) (walk 0 (w.Key stage ∷ []) (pieces (line_spelling line)))
-    c.0 c.1 (not_closed stage.version stage.given stage.last _ a) (line_on stage line a v h)
+    c.0 c.1 (not_closed stage.version stage.given stage.last _ a) (line_on Kept stage line a v h)

@@ -102,14 +102,14 @@ word_closes : (n : ℕ) (want : Want) (rest : List Want) (bytes : List ℕ) → 
     → (StartsApart (moved n want rest (word bytes)).wants) → Closes (moved n want rest (word bytes)).nodes (moved n want rest (word bytes)).wants → (StartsApart (want ∷ rest) → ⊥) → Closes n (want ∷ rest)
 word_closes n want rest bytes solid taken starts c never = record {
   more = bytes ++ c.more;
-  done = word_on n want rest bytes c.more solid (c.apart starts) taken ∙ c.done;
+  done = word_on Kept n want rest bytes c.more solid (c.apart starts) taken ∙ c.done;
   apart = λ h. absurd (never h);
 }
 
 bracket_closes : (n : ℕ) (row : Row) (level count : ℕ) (rest : List Want) → nat_lt 0 count ≡ true → Closes n rest → Closes n (w.Row row level count e.Bracket ∷ rest)
 bracket_closes n row level count rest h c = record {
   more = 41 ∷ c.more;
-  done = taken_on n (w.Row row level count e.Bracket) rest closing (pieces c.more) h ∙ c.done;
+  done = taken_on Kept n (w.Row row level count e.Bracket) rest closing (pieces c.more) h ∙ c.done;
   apart = λ s. apart_close c.more;
 }
 
@@ -119,7 +119,7 @@ item_closes : (n : ℕ) (row : Row) (level count : ℕ) (ending : Ending) (rest 
 unfolding is_solid
 item_closes n row level count ending rest mark may c = record {
   more = codes "A" ++ c.more;
-  done = item_on n row level count ending rest (codes "A") c.more refl (c.apart tt) (no_mark ending mark) may (any_item row) ∙ c.done;
+  done = item_on Kept n row level count ending rest (codes "A") c.more refl (c.apart tt) (no_mark ending mark) may (any_item row) ∙ c.done;
   apart = λ s. absurd s;
 }
 
@@ -127,7 +127,7 @@ space_closes : (n : ℕ) (row : Row) (level count : ℕ) (ending : Ending) (rest
     → Closes n (w.Row row level count ending ∷ rest)
 space_closes n row level count ending rest may c = record {
   more = 32 ∷ c.more;
-  done = space_on n row level count ending rest c.more may ∙ c.done;
+  done = space_on Kept n row level count ending rest c.more may ∙ c.done;
   apart = λ s. apart_space c.more;
 }
 
@@ -136,7 +136,7 @@ over_closes : (n : ℕ) (row : Row) (level count : ℕ) (ending : Ending) (rest 
 unfolding Gives
 over_closes n row level count e.Line rest b g = record {
   more = [];
-  done = subst (λ l. walk n (w.Row row level (count + 1) e.Line ∷ l) [] ≡ None) (sym b) (walk_nil n (w.Row row level (count + 1) e.Line ∷ []) ∙ enough_is row);
+  done = subst (λ l. walk n (w.Row row level (count + 1) e.Line ∷ l) [] ≡ None) (sym b) (walk_nil Kept n (w.Row row level (count + 1) e.Line ∷ []) ∙ enough_is row);
   apart = λ s. apart_none;
 }
   where
@@ -148,7 +148,7 @@ over_closes n row level count e.Line rest b g = record {
 over_closes n row level count e.Bracket rest b g = bracket_closes n row level (count + 1) rest (some_count count) (g n (b.1 n))
 over_closes n row level count (e.Mark mark) rest b g = let c = g 0 (b.2 0) in record {
   more = 32 ∷ (mark_text mark ++ c.more);
-  done = mark_on n row level (count + 1) mark rest c.more b.0 (c.apart b.1) ∙ c.done;
+  done = mark_on Kept n row level (count + 1) mark rest c.more b.0 (c.apart b.1) ∙ c.done;
   apart = λ s. apart_space (mark_text mark ++ c.more);
 }
 
@@ -174,11 +174,11 @@ bracket_by false n row level count rest q h b g = space_closes n row level count
 
 line_closes : (n : ℕ) (row : Row) (level count : ℕ) (rest : List Want) → rest ≡ [] → Gives rest → Closes n (w.Row row level count e.Line ∷ rest)
 line_closes n r.Sorts level count rest b g =
-    record { more = []; done = subst (λ l. walk n (w.Row r.Sorts level count e.Line ∷ l) [] ≡ None) (sym b) (walk_nil n (w.Row r.Sorts level count e.Line ∷ [])); apart = λ s. apart_none }
+    record { more = []; done = subst (λ l. walk n (w.Row r.Sorts level count e.Line ∷ l) [] ≡ None) (sym b) (walk_nil Kept n (w.Row r.Sorts level count e.Line ∷ [])); apart = λ s. apart_none }
 line_closes n r.Names level count rest b g =
-    record { more = []; done = subst (λ l. walk n (w.Row r.Names level count e.Line ∷ l) [] ≡ None) (sym b) (walk_nil n (w.Row r.Names level count e.Line ∷ [])); apart = λ s. apart_none }
+    record { more = []; done = subst (λ l. walk n (w.Row r.Names level count e.Line ∷ l) [] ≡ None) (sym b) (walk_nil Kept n (w.Row r.Names level count e.Line ∷ [])); apart = λ s. apart_none }
 line_closes n (r.Args place) level count rest b g =
-    record { more = []; done = subst (λ l. walk n (w.Row (r.Args place) level count e.Line ∷ l) [] ≡ None) (sym b) (walk_nil n (w.Row (r.Args place) level count e.Line ∷ [])); apart = λ s. apart_none }
+    record { more = []; done = subst (λ l. walk n (w.Row (r.Args place) level count e.Line ∷ l) [] ≡ None) (sym b) (walk_nil Kept n (w.Row (r.Args place) level count e.Line ∷ [])); apart = λ s. apart_none }
 line_closes n r.Values level count rest b g = space_closes n r.Values level count e.Line rest refl (one_item n r.Values level count e.Line rest refl b g)
 
 row_closes : (n : ℕ) (row : Row) (level count : ℕ) (ending : Ending) (rest : List Want) → row_may n row level count ending ≡ true → Behind ending rest ((m : ℕ) → Wanted m rest) → Gives rest
@@ -188,7 +188,7 @@ row_closes n row level count e.Line rest h b g = line_closes n row level count r
 row_closes n row level count e.Bracket rest h b g = bracket_by (nat_lt 0 count) n row level count rest refl h b g
 row_closes n row level count (e.Mark mark) rest h b g = let c = g 0 (b.2 0) in record {
   more = 32 ∷ (mark_text mark ++ c.more);
-  done = mark_on n row level count mark rest c.more b.0 (c.apart b.1) ∙ c.done;
+  done = mark_on Kept n row level count mark rest c.more b.0 (c.apart b.1) ∙ c.done;
   apart = λ s. apart_space (mark_text mark ++ c.more);
 }
 
@@ -220,14 +220,14 @@ fixed_closes n Height rest s c = word_closes n (w.Fixed Height) rest (codes "hei
 fixed_closes n Count rest s c = word_closes n (w.Fixed Count) rest (codes "count") refl refl s c (λ t. t)
 
 over : (n : ℕ) → Closes n []
-over n = record { more = []; done = walk_nil n []; apart = λ s. apart_none }
+over n = record { more = []; done = walk_nil Kept n []; apart = λ s. apart_none }
 
 pub closes : (wants : List Want) (n : ℕ) → Wanted n wants → Closes n wants
 unfolding is_solid Gives
 closes [] n h = over n
 closes (w.Key stage ∷ rest) n h = subst (λ l. Closes n (w.Key stage ∷ l)) (sym h.0) h.1
 closes (w.Pools ∷ rest) n h = word_closes n w.Pools rest (codes "given") refl refl (subst StartsApart (sym h) tt) (subst (λ l. Closes 0 l) (sym h) (over 0)) (λ s. s)
-closes (w.Gap ∷ rest) n h = let c = closes rest n h in record { more = 32 ∷ c.more; done = gap_on n rest c.more ∙ c.done; apart = λ s. apart_space c.more }
+closes (w.Gap ∷ rest) n h = let c = closes rest n h in record { more = 32 ∷ c.more; done = gap_on Kept n rest c.more ∙ c.done; apart = λ s. apart_space c.more }
 closes (w.Version ∷ rest) n h = word_closes n w.Version rest (codes "1") refl refl h.0 (closes rest n h.1) (λ s. s)
 closes (w.Fixed mark ∷ rest) n h = fixed_closes n mark rest h.0 (closes rest n h.1)
 closes (w.Number ∷ rest) n h = word_closes n w.Number rest (codes "0") refl refl h.0 (closes rest n h.1) (λ s. s)

@@ -56,7 +56,7 @@ next_by true n want rest old new piece k f s h = record { new = new; first = f.f
 next_by false n want rest old new piece k f s h = let q = stuck n want old new piece f.first k rest in absurd (cc)
 
 pub next : (n : ℕ) (want : Want) (rest : List Want) (old : List ℕ) → walk n (want ∷ rest) (pieces old) ≡ None → Over want rest old ⊎ ((piece : Piece) × Next n want rest old piece)
-next n want rest [] h = let q = both (may_end want) (ends rest) (end_none (may_end want && ends rest) (sym (walk_nil n (want ∷ rest)) ∙ h)) in inl (record { all = refl; may = q.0; ends = q.1 })
+next n want rest [] h = let q = both (may_end want) (ends rest) (end_none (may_end want && ends rest) (sym (walk_nil Kept n (want ∷ rest)) ∙ h)) in inl (record { all = refl; may = q.0; ends = q.1 })
 next n want rest (b ∷ bs) h =
     let f = some_first b bs in inr (f.piece, next_by (takes Kept n want f.piece) n want rest (b ∷ bs) f.rest f.piece refl f.first f.shorter h)
 

@@ -214,7 +214,7 @@ alone_of p.Body (Field index) false h = absurd cc
 alone_of p.Value (Field index) false h = absurd cc
 
 pub head_plain : (place : Place) (head : RawHead) (alone : Bool) → head_fits Kept place head alone ≡ true → list_all is_plain (head_spelling head) ≡ true
-head_plain place head alone h = solid_plain (head_spelling head) (head_atom place head (alone_of place head alone h)).solid
+head_plain place head alone h = solid_plain (head_spelling head) (head_atom Kept place head (alone_of place head alone h)).solid
 
 -- Terms. What fits of a term is what fits of its head and of its arguments.
 pub record Fits (place : Place) (root : RawHead) (terms : List RawTerm) : Type 0 where

@@ -96,18 +96,18 @@ missing true kind e = absurd cc
 missing false kind e = some_kind k.Missing kind e
 
 stuck_there : (n : ℕ) (want : Want) (rest : List Want) (piece : Piece) (more : List Piece) → takes Kept n want piece ≡ false → walk n (want ∷ rest) (piece ∷ more) ≡ None → ⊥
-unfolding walk
+unfolding walk_in
 stuck_there n want rest piece more t h =
     let q = ap (λ b. step b (kind_at n want piece) (walk (moved n want rest piece).nodes (moved n want rest piece).wants more)) t in cc
 
 past_there : (n : ℕ) (piece : Piece) (more : List Piece) → walk n [] (piece ∷ more) ≡ Some k.Word
-unfolding walk
+unfolding walk_in
 past_there n piece more = refl
 
 moved_stops : (n : ℕ) (want : Want) (rest : List Want) (piece : Piece) (front left : List Piece) (kind : ReadKind) → takes Kept n want piece ≡ true
     → StopsHere (moved n want rest piece).nodes (moved n want rest piece).wants front left kind → StopsHere n (want ∷ rest) (piece ∷ front) left kind
 moved_stops n want rest piece front [] kind t s = s
-moved_stops n want rest piece front (q ∷ left) kind t s = ((λ more h. s.0 more (sym (taken_on n want rest piece (front ++ q ∷ more) t) ∙ h)), s.1)
+moved_stops n want rest piece front (q ∷ left) kind t s = ((λ more h. s.0 more (sym (taken_on Kept n want rest piece (front ++ q ∷ more) t) ∙ h)), s.1)
 
 -- what is taken where a space or a bracket is wanted
 begins_so : (n : ℕ) (want : Want) (rest : List Want) (piece : Piece) (full : List ℕ) → takes Kept n want piece ≡ true → StartsApart (want ∷ rest) → begins_apart (piece_text piece ++ full) ≡ true
@@ -147,7 +147,7 @@ moved_on n want rest old new piece kind first is t apart x =
       full = piece_text piece ++ x.full;
       more = x.more;
       begins = on ∙ ap (λ l. piece ∷ l) x.begins;
-      done = ap (walk n (want ∷ rest)) on ∙ taken_on n want rest piece (pieces x.full) t ∙ x.done;
+      done = ap (walk n (want ∷ rest)) on ∙ taken_on Kept n want rest piece (pieces x.full) t ∙ x.done;
       apart = λ s. begins_so n want rest piece x.full t s;
       stops = moved_stops n want rest piece x.front x.rest kind t x.stops;
     }
@@ -166,19 +166,19 @@ find_by false fuel rec n want rest old new piece kind t short first h e =
 find_by true fuel rec n want rest old new piece kind t short first h e =
     let q = piece_left n want rest piece h t in
     moved_on n want rest old new piece kind first (first_is_piece old new piece first) t q.1
-    (rec (moved n want rest piece).nodes (moved n want rest piece).wants new kind short q.0 (sym (taken_on n want rest piece (pieces new) t) ∙ ap (walk n (want ∷ rest)) (sym first) ∙ e))
+    (rec (moved n want rest piece).nodes (moved n want rest piece).wants new kind short q.0 (sym (taken_on Kept n want rest piece (pieces new) t) ∙ ap (walk n (want ∷ rest)) (sym first) ∙ e))
 
 find : (fuel : ℕ) → Finds fuel
 find zero = λ n wants old kind short h e. absurd (omega arith)
 find (suc fuel) = λ n wants old kind short h e. by (find fuel) n wants old kind short h e
   where
     by : Finds fuel → (n : ℕ) (wants : List Want) (old : List ℕ) (kind : ReadKind) → length old < suc fuel → Wanted n wants → walk n wants (pieces old) ≡ Some kind → Stop n wants old kind
-    by rec n [] [] kind short h e = let q = walk_nil n [] in absurd (cc)
+    by rec n [] [] kind short h e = let q = walk_nil Kept n [] in absurd (cc)
     by rec n [] (b ∷ bs) kind short h e =
         let f = some_first b bs in
         stops_at n [] (b ∷ bs) kind (f.piece ∷ pieces f.rest) h f.first.first
         ((λ more q. let u = past_there n f.piece more in cc), some_kind k.Word kind (sym (past_there n f.piece (pieces f.rest)) ∙ ap (walk n []) (sym f.first.first) ∙ e))
-    by rec n (want ∷ rest) [] kind short h e = stops_at n (want ∷ rest) [] kind [] h refl (missing (may_end want && ends rest) kind (sym (walk_nil n (want ∷ rest)) ∙ e))
+    by rec n (want ∷ rest) [] kind short h e = stops_at n (want ∷ rest) [] kind [] h refl (missing (may_end want && ends rest) kind (sym (walk_nil Kept n (want ∷ rest)) ∙ e))
     by rec n (want ∷ rest) (b ∷ bs) kind short h e =
         let f = some_first b bs in
         find_by (takes Kept n want f.piece) fuel rec n want rest (b ∷ bs) f.rest f.piece kind refl (let s = f.shorter in omega arith) f.first.first h e
@@ -228,7 +228,7 @@ not_begun : (before : List RawLine) (front : List Piece) (piece : Piece) → ((m
 not_begun before front piece h b =
     let o = order_split start before (b.line ∷ b.after) (spelled_in_order (before ++ b.line ∷ b.after) b.signature.order).0 in
     let s = each_split before (b.line ∷ b.after) b.signature.each in
-    h b.rest (ap (walk 0 (w.Key (stage_behind start before) ∷ [])) (sym (b.begins ∙ append_assoc front (piece ∷ []) b.rest)) ∙ line_on (stage_behind start before) b.line o.0 o.1 s.0)
+    h b.rest (ap (walk 0 (w.Key (stage_behind start before) ∷ [])) (sym (b.begins ∙ append_assoc front (piece ∷ []) b.rest)) ∙ line_on Kept (stage_behind start before) b.line o.0 o.1 s.0)
 
 stops_there : (before : List RawLine) (front rest : List Piece) (kind : ReadKind) → StopsHere 0 (w.Key (stage_behind start before) ∷ []) front rest kind → StopsThere before front rest kind
 stops_there before front [] kind s = s
@@ -239,7 +239,7 @@ pub place_law : (before : List RawLine) (line : List ℕ) (kind : ReadKind) → 
 place_law before line kind order each going e =
     let stage = stage_behind start before in
     let a = some_allowed stage going in
-    let c : Closes 0 (w.Key stage ∷ []) = record { more = line_spelling a.line; done = line_on stage a.line a.allowed a.form a.spelled; apart = λ s. absurd s } in
+    let c : Closes 0 (w.Key stage ∷ []) = record { more = line_spelling a.line; done = line_on Kept stage a.line a.allowed a.form a.spelled; apart = λ s. absurd s } in
     let x = find (suc (length line)) 0 (w.Key stage ∷ []) line kind (omega arith) (refl, c) e in
     let f = line_found stage x.full x.done in
     record {

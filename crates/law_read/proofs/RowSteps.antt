@@ -53,8 +53,8 @@ row_at_end nodes row level count (e.Mark mark) old new ended = let h = ended.may
 row_at_end nodes row level count e.Line old new ended = record {
   text = ended.all ∙ sym ended.none;
   walked = λ rest. ap (λ l. walk nodes (w.Row row level count e.Line ∷ rest) (pieces l)) ended.all
-      ∙ walk_nil nodes (w.Row row level count e.Line ∷ rest) ∙ ap (λ b. end_fault (b && ends rest)) ended.may
-      ∙ sym (walk_nil 0 rest) ∙ ap (λ l. walk 0 rest (pieces l)) (sym ended.none);
+      ∙ walk_nil Kept nodes (w.Row row level count e.Line ∷ rest) ∙ ap (λ b. end_fault (b && ends rest)) ended.may
+      ∙ sym (walk_nil Kept 0 rest) ∙ ap (λ l. walk 0 rest (pieces l)) (sym ended.none);
   some = ended.may;
 }
 

@@ -21,7 +21,7 @@ pub no_equation : (bytes : List ℕ) (kind : ReadKind) → walk 0 (w.Root p.Equa
     → (left right : RawTerm) → IsEquation bytes left right → ⊥
 no_equation bytes kind f left right q =
     let words = term_words left ++ codes "=" ∷ term_words right in
-    let n = sym (gap_on 0 (w.Root p.Equation (e.Mark Equals) ∷ w.Gap ∷ w.Root p.Equation e.Line ∷ []) (joined words)) ∙ sides_on left right q.first q.second in
+    let n = sym (gap_on Kept 0 (w.Root p.Equation (e.Mark Equals) ∷ w.Gap ∷ w.Root p.Equation e.Line ∷ []) (joined words)) ∙ sides_on Kept left right q.first q.second in
     let m = ap (λ l. walk 0 (w.Root p.Equation (e.Mark Equals) ∷ w.Gap ∷ w.Root p.Equation e.Line ∷ []) (pieces l)) q.text in
     cc
 
@@ -31,6 +31,6 @@ in_pool = record { version = First; given = true; last = Some Pool }
 
 pub no_values : (bytes : List ℕ) (kind : ReadKind) → walk 0 (w.Key in_pool ∷ []) (pieces bytes) ≡ Some kind → (sort : List ℕ) (values : List RawTerm) → IsValuesLine bytes sort values → ⊥
 no_values bytes kind f sort values q =
-    let n = line_on in_pool (Values sort values) refl refl q.line in
+    let n = line_on Kept in_pool (Values sort values) refl refl q.line in
     let m = ap (λ l. walk 0 (w.Key in_pool ∷ []) (pieces l)) q.text in
     cc

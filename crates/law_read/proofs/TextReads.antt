@@ -41,7 +41,7 @@ term_read : (term : RawTerm) → IsTerm Kept p.Equation term → term_fault (ter
 term_read term h =
     let c = clean_joined (term_words term) (clean_term p.Equation term h) in
     in_order (list_all is_printed (term_spelling term)) (is_spaced (term_spelling term)) false (walk 0 (w.Root p.Equation e.Line ∷ []) (pieces (term_spelling term)))
-    c.0 c.1 refl (sym (gap_on 0 (w.Root p.Equation e.Line ∷ []) (joined (term_words term))) ∙ root_end p.Equation term h)
+    c.0 c.1 refl (sym (gap_on Kept 0 (w.Root p.Equation e.Line ∷ []) (joined (term_words term))) ∙ root_end Kept p.Equation term h)
 
 pub term_taken : (bytes : List ℕ) (term : RawTerm) → TermFound bytes term → TermTaken bytes term
 term_taken bytes term f = record { is_term = f.is_term; text = f.text; only = λ other h g. one_term_law p.Equation other term h f.is_term (g ∙ sym f.text) }

@@ -5,6 +5,7 @@ use Rattle.law_read.specs.declared.raw.RawLine.{RawLine}
 use Rattle.law_read.specs.declared.raw.RawTerm.{RawTerm}
 use Rattle.law_read.specs.declared.want.Place.{Place}
 use Rattle.law_read.specs.declared.want.Want.TheVariants as w
+use Rattle.law_read.specs.declared.want.Bounds.{Bounds}
 use Rattle.law_read.specs.declared.want.Bounds.TheVariants.{Kept}
 use Rattle.law_read.specs.declared.stage.Stage.{Stage}
 use Rattle.law_read.specs.Spelling.{line_spelling, sig_spelling, term_spelling}
@@ -14,15 +15,15 @@ use Rattle.law_read.specs.Texts.{FirstFault}
 use Rattle.law_read.specs.declared.error.ReadKind.{ReadKind}
 use Rattle.law_read.specs.Lines.{IsLine}
 use Rattle.law_read.specs.Stages.{IsOfVersion, allows, line_key}
-use Rattle.law_read.specs.Walk.{walk}
+use Rattle.law_read.specs.Walk.{walk_in}
 use Rattle.law_read.specs.Faults.{line_fault}
 
--- A line that may come at a stage and that the grammar spells is read to its end.
+-- A line that may come at a stage and that the grammar spells, with its bounds or without them, is read to its end.
 abbrev pub SpelledIsWalked : Type 0
-SpelledIsWalked = (stage : Stage) (line : RawLine) → allows stage (line_key line) ≡ true → IsOfVersion stage.version line → IsLine Kept line
-    → walk 0 (w.Key stage ∷ []) (pieces (line_spelling line)) ≡ None
+SpelledIsWalked = (bounds : Bounds) (stage : Stage) (line : RawLine) → allows stage (line_key line) ≡ true → IsOfVersion stage.version line → IsLine bounds line
+    → walk_in bounds 0 (w.Key stage ∷ []) (pieces (line_spelling line)) ≡ None
 
--- It has no fault. So a line that has one is the spelling of no line that may come at the stage.
+-- One within the bounds has no fault. So a line that has one is the spelling of no line that may come at the stage.
 abbrev pub SpelledIsRead : Type 0
 SpelledIsRead = (stage : Stage) (line : RawLine) → allows stage (line_key line) ≡ true → IsOfVersion stage.version line → IsLine Kept line
     → line_fault stage (line_spelling line) ≡ None

@@ -185,8 +185,8 @@ is_mended nodes want bytes = (not (is_number bytes) && takes_word Free nodes wan
     || (mended_sign 64 bytes && takes_word Free nodes want (codes "@0"))))
 
 abbrev pub kind_by : Bool → Bool → ReadKind
-kind_by true number = k.TooLong
-kind_by false true = k.Number
+kind_by true free = k.Number
+kind_by false true = k.TooLong
 kind_by false false = k.Word
 
 abbrev pub number_fault : ℕ → Want → Piece → Bool
@@ -195,7 +195,7 @@ number_fault nodes want piece = false
 
 -- The kind of a place that isn't taken.
 abbrev pub kind_at : ℕ → Want → Piece → ReadKind
-kind_at nodes want piece = kind_by (takes Free nodes want piece) (number_fault nodes want piece)
+kind_at nodes want piece = kind_by (number_fault nodes want piece) (takes Free nodes want piece)
 
 -- what a line has behind its key
 abbrev pub setting : List Want
@@ -311,9 +311,12 @@ abbrev pub step : Bool → ReadKind → Option ReadKind → Option ReadKind
 step true kind further = further
 step false kind further = Some kind
 
--- The kind of the first place that isn't taken; `None` where all are and the line may end.
-unfoldable pub walk : ℕ → List Want → List Piece → Option ReadKind
-walk nodes wants [] = end_fault (ends wants)
-walk nodes [] (piece ∷ pieces) = Some k.Word
-walk nodes (want ∷ rest) (piece ∷ pieces) = step (takes Kept nodes want piece) (kind_at nodes want piece)
-    (walk (moved nodes want rest piece).nodes (moved nodes want rest piece).wants pieces)
+-- The kind of the first place that isn't taken under these bounds; `None` where all are and the line may end.
+unfoldable pub walk_in : Bounds → ℕ → List Want → List Piece → Option ReadKind
+walk_in bounds nodes wants [] = end_fault (ends wants)
+walk_in bounds nodes [] (piece ∷ pieces) = Some k.Word
+walk_in bounds nodes (want ∷ rest) (piece ∷ pieces) = step (takes bounds nodes want piece) (kind_at nodes want piece)
+    (walk_in bounds (moved nodes want rest piece).nodes (moved nodes want rest piece).wants pieces)
+
+abbrev pub walk : ℕ → List Want → List Piece → Option ReadKind
+walk nodes wants pieces = walk_in Kept nodes wants pieces

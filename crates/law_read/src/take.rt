@@ -2,7 +2,7 @@ ghost use Rattle.std.specs.Prelude.{◌≡◌, IsTrue, length, is_some, option_m
 ghost use Rattle.std.specs.Str.{bytes_eq};
 ghost use Rattle.law_text.specs.Pieces.{piece_of};
 ghost use Rattle.law_read.specs.Terms.{is_name_in, within};
-ghost use Rattle.law_read.specs.Walk.{below, cut, has_mark, is_atom, is_index, is_item, is_mark, is_mended, is_number, is_numbered, is_pools, is_special, is_variable, is_version, key_in, key_of, later_keys, allows_found, kind_at, mark_text, may_come, may_open, mended_index, mended_sign, takes, takes_closing, takes_opening, takes_space, takes_word};
+ghost use Rattle.law_read.specs.Walk.{below, cut, has_mark, is_atom, is_index, is_item, is_mark, is_mended, is_number, is_numbered, is_pools, is_special, is_variable, is_version, key_in, key_of, later_keys, allows_found, kind_at, mark_text, may_come, may_open, mended_index, mended_sign, number_fault, takes, takes_closing, takes_opening, takes_space, takes_word};
 
 use crate::error::ReadKind;
 use crate::stage::{Key, Stage};
@@ -368,11 +368,22 @@ fn is_mended(nodes: u32, want: Want, word: &[u8]) -> bool
 pub fn kind_at(nodes: u32, want: Want, token: Token<'_>) -> ReadKind
     ensures { result ≡ kind_at nodes want (piece_of token.entry) }
 {
+    if number_fault(nodes, want, token) {
+        return ReadKind::Number;
+    }
     if takes(Bounds::Free, nodes, want, token) {
         return ReadKind::TooLong;
     }
+    ReadKind::Word
+}
+
+fn number_fault(nodes: u32, want: Want, token: Token<'_>) -> bool
+    ensures { result ≡ number_fault nodes want (piece_of token.entry) }
+{
     match token {
-        Token::Word(word) if is_mended(nodes, want, word) => ReadKind::Number,
-        _ => ReadKind::Word,
+        Token::Space => false,
+        Token::Open => false,
+        Token::Close => false,
+        Token::Word(word) => is_mended(nodes, want, word),
     }
 }
