@@ -24,7 +24,8 @@ use Rattle.law_read.specs.declared.want.Ending.{Ending}
 use Rattle.law_read.specs.declared.want.Ending.TheVariants as e
 use Rattle.law_read.specs.Spelling.{head_spelling}
 use Rattle.law_read.specs.Terms.{is_name_in, head_fits, within}
-use Rattle.law_read.specs.Walk.{walk_in, takes, takes_word, moved, word_moved, kind_at, step, is_number, is_index, cut, cut_by, is_variable, is_special, is_atom, is_item, is_mark, has_mark, may_come, item_moved, before_item}
+use Rattle.law_read.specs.Walk.{walk_in, takes, takes_word, moved, word_moved, kind_at, step, is_variable, is_special, is_atom, is_item, is_mark, has_mark, may_come, item_moved, before_item}
+use Rattle.law_read.specs.Numbers.{is_number, is_index, cut, cut_by}
 use Rattle.law_read.proofs.RowSteps.{both}
 
 -- a condition that the grammar without bounds doesn't have

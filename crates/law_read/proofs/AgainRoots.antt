@@ -26,7 +26,8 @@ use Rattle.law_read.specs.declared.want.Ending.TheVariants as e
 use Rattle.law_read.specs.Spelling.{arg_spelling, head_spelling, spaced, term_words}
 use Rattle.law_read.specs.Terms.{IsTerm, depth, head_fits, is_empty, is_name_in, largest, node_count, node_fits, nodes_fit, within}
 use Rattle.law_read.specs.Lines.{AreValues}
-use Rattle.law_read.specs.Walk.{walk_in, behind, is_atom, cut, end_fault, mark_text, root_moved}
+use Rattle.law_read.specs.Walk.{walk_in, behind, is_atom, end_fault, mark_text, root_moved}
+use Rattle.law_read.specs.Numbers.{cut}
 use Rattle.law_read.proofs.RowSteps.{both}
 use Rattle.law_read.proofs.Cuts.{no_cut}
 use Rattle.law_read.proofs.Walks.{walk_nil}

@@ -15,8 +15,8 @@ use Rattle.law_read.specs.declared.want.Place.TheVariants as p
 use Rattle.law_read.specs.Spelling.{joined, line_spelling, line_words, spaced}
 use Rattle.law_read.specs.Lines.{IsLine}
 use Rattle.law_read.specs.Stages.{allows_last_key}
-use Rattle.law_read.specs.Walk.{walk}
-use Rattle.law_read.specs.Faults.{is_closed_by, is_printed, is_spaced, kind_in_order, spaces_fit}
+use Rattle.law_read.specs.Walk.{walk, kind_in_order}
+use Rattle.law_read.specs.Faults.{is_closed_by, is_printed, is_spaced, spaces_fit}
 use Rattle.law_read.specs.Laws.{SpelledIsRead}
 use Rattle.law_read.proofs.RowSteps.{both}
 use Rattle.law_read.proofs.Clean.{IsClean, clean_arg, clean_name, clean_number, clean_spaced, clean_term, clean_word, is_graphic, printed_append}

@@ -3,6 +3,7 @@ pub mod AgainTerms
 pub mod AgainAll
 pub mod AgainRoots
 pub mod AgainLines
+pub mod Begins
 pub mod Clean
 pub mod CleanLines
 pub mod Closes

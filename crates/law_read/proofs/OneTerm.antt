@@ -19,7 +19,7 @@ use Rattle.law_read.specs.Spelling.{arg_spelling, arg_step, bracketed, head_spel
 use Rattle.law_read.specs.FirstArg.{above, word_at, word_by}
 use Rattle.law_read.specs.Laws.{OneTerm}
 use Rattle.law_read.specs.Terms.{head_fits, is_empty, is_name_in, node_fits, nodes_fit, within}
-use Rattle.law_read.specs.Walk.{cut}
+use Rattle.law_read.specs.Numbers.{cut}
 use Rattle.law_read.proofs.RowSteps.{both}
 use Rattle.law_read.proofs.Again.{all_named, cut_at_dot, head_atom, is_solid, less_of}
 

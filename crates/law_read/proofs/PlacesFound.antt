@@ -16,8 +16,8 @@ use Rattle.law_read.specs.declared.want.Want.TheVariants as w
 use Rattle.law_read.specs.Spelling.{line_spelling}
 use Rattle.law_read.specs.Lines.{IsLine}
 use Rattle.law_read.specs.Stages.{InOrder, IsOfVersion, allows, line_key, stage_after, stage_behind, start}
-use Rattle.law_read.specs.Walk.{end_fault, ends, kind_at, may_end, moved, step, takes, walk}
-use Rattle.law_read.specs.Faults.{is_closed_by, is_printed, is_spaced, kind_in_order, line_fault}
+use Rattle.law_read.specs.Walk.{end_fault, ends, kind_at, may_end, moved, step, takes, walk, kind_in_order, line_fault}
+use Rattle.law_read.specs.Faults.{is_closed_by, is_printed, is_spaced}
 use Rattle.law_read.specs.Places.{Begun, FirstPlace, KindBy, LineKind, StopsThere, place_kind, wanted}
 use Rattle.law_read.proofs.Again.{apart_close, apart_space, is_solid, solid_first, taken_on}
 use Rattle.law_read.proofs.AgainLines.{line_on}

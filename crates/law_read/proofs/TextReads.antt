@@ -14,8 +14,8 @@ use Rattle.law_read.specs.declared.want.Want.TheVariants as w
 use Rattle.law_read.specs.Spelling.{joined, sig_spelling, term_spelling, term_words}
 use Rattle.law_read.specs.Terms.{IsTerm}
 use Rattle.law_read.specs.Signature.{IsRawSig}
-use Rattle.law_read.specs.Walk.{walk}
-use Rattle.law_read.specs.Faults.{is_printed, is_spaced, term_fault}
+use Rattle.law_read.specs.Walk.{walk, term_fault}
+use Rattle.law_read.specs.Faults.{is_printed, is_spaced}
 use Rattle.law_read.specs.Texts.{IsReadAs, RefusedBy, TermRefused, TermTaken}
 use Rattle.law_read.specs.Progress.{StoppedBy, TermFound}
 use Rattle.law_read.proofs.Again.{gap_on}

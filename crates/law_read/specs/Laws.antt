@@ -15,8 +15,7 @@ use Rattle.law_read.specs.Texts.{FirstFault}
 use Rattle.law_read.specs.declared.error.ReadKind.{ReadKind}
 use Rattle.law_read.specs.Lines.{IsLine}
 use Rattle.law_read.specs.Stages.{IsOfVersion, allows, line_key}
-use Rattle.law_read.specs.Walk.{walk_in}
-use Rattle.law_read.specs.Faults.{line_fault}
+use Rattle.law_read.specs.Walk.{walk_in, line_fault}
 
 -- A line that may come at a stage and that the grammar spells, with its bounds or without them, is read to its end.
 abbrev pub SpelledIsWalked : Type 0

@@ -19,3 +19,8 @@ pub fn texts_have_one_reading()
     ensures text { OneText }
     ensures term { OneTerm }
 {}
+
+#[tactic(auto, using(crate::proofs::Begins::fills))]
+pub fn temp_check()
+    ensures { OneText }
+{}
