@@ -290,7 +290,7 @@ seed_given rest bytes g =
       text = words_on (decimal a.0) second bytes a.2.more f.2.more a.2.text
           (words_on (codes "height") third a.2.more b.more f.2.more b.text
           (words_on (decimal c.0) fourth b.more c.2.more f.2.more c.2.text
-          (words_on (codes "count") last c.2.more d.more f.2.more d.text (words_on (decimal f.0) [] d.more f.2.more f.2.more f.2.text refl))));
+          (words_on (codes "count") last c.2.more d.more f.2.more d.text (words_on (decimal f.0) [] d.more f.2.more f.2.more f.2.text (refl {a = f.2.more})))));
       left = f.2.left;
     }
 
@@ -368,7 +368,7 @@ words_apart : (words : List (List ℕ)) (more : List ℕ) → begins_apart more 
 words_apart [] more h = h
 words_apart (x ∷ words) more h = apart_space ((x ++ spaced words) ++ more)
 
-given_apart : (wants : List Want) (n : ℕ) (bytes : List ℕ) → Wanted Free n wants → StartsApart wants → Given wants bytes → begins_apart bytes ≡ true
+pub given_apart : (wants : List Want) (n : ℕ) (bytes : List ℕ) → Wanted Free n wants → StartsApart wants → Given wants bytes → begins_apart bytes ≡ true
 given_apart [] n bytes h s g = subst (λ t. begins_apart t ≡ true) (sym g) apart_none
 given_apart (w.Gap ∷ rest) n bytes h s g = subst (λ t. begins_apart t ≡ true) (sym g.1) (apart_space g.0)
 given_apart (w.Row row level count ending ∷ rest) n bytes h s g =

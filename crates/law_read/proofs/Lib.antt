@@ -11,6 +11,8 @@ pub mod Completes
 pub mod Cuts
 pub mod FirstFaults
 pub mod Found
+pub mod FreeLines
+pub mod Freed
 pub mod OneLine
 pub mod OneTerm
 pub mod OrderRows

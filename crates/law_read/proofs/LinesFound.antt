@@ -65,7 +65,7 @@ name_at : (old : List ℕ) (rest : List Want) → walk 0 (w.Name ∷ rest) (piec
 name_at old rest h =
     let x = next_word 0 w.Name rest old refl h in record { name = x.bytes; named = x.took.taken; behind = record { new = x.new; read = name_read old x.new x.bytes x.bytes x.took refl; left = x.left } }
 
-end_at : (old : List ℕ) → walk 0 [] (pieces old) ≡ None → old ≡ []
+pub end_at : (old : List ℕ) → walk 0 [] (pieces old) ≡ None → old ≡ []
 end_at [] h = refl
 end_at (b ∷ bs) h = let f = some_first b bs in let q = past_end 0 (b ∷ bs) f.rest f.piece f.first.first in absurd (cc)
 

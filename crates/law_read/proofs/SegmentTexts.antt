@@ -8,6 +8,7 @@ use Rattle.law_read.specs.declared.stage.Stage.{Stage}
 use Rattle.law_read.specs.declared.stage.Version.TheVariants.{First}
 use Rattle.law_read.specs.declared.stage.Key.TheVariants.{Pool}
 use Rattle.law_read.specs.declared.want.Want.TheVariants as w
+use Rattle.law_read.specs.declared.want.Bounds.TheVariants.{Kept}
 use Rattle.law_read.specs.declared.want.Ending.TheVariants as e
 use Rattle.law_read.specs.declared.want.Mark.TheVariants.{Equals}
 use Rattle.law_read.specs.declared.want.Place.TheVariants as p

@@ -17,6 +17,7 @@ use Rattle.law_read.specs.Signature.{IsRawSig}
 use Rattle.law_read.specs.Walk.{walk, term_fault}
 use Rattle.law_read.specs.Faults.{is_printed, is_spaced}
 use Rattle.law_read.specs.Texts.{IsReadAs, RefusedBy, TermRefused, TermTaken}
+use Rattle.law_read.specs.Laws.{OneTermFault}
 use Rattle.law_read.specs.Progress.{StoppedBy, TermFound}
 use Rattle.law_read.proofs.Again.{gap_on}
 use Rattle.law_read.proofs.AgainLines.{root_end}
@@ -24,6 +25,7 @@ use Rattle.law_read.proofs.Clean.{clean_term}
 use Rattle.law_read.proofs.CleanLines.{clean_joined, in_order}
 use Rattle.law_read.proofs.FirstFaults.{first_fault, refused_law}
 use Rattle.law_read.proofs.OneTerm.{one_term_law}
+use Rattle.law_read.proofs.PlacesFound.{one_term_kind, term_kind}
 use Rattle.law_read.proofs.Whole.{one_text_law}
 
 pub read_as : (text : List ℕ) (lines : List RawLine) → IsRawSig lines → sig_spelling lines ≡ text → IsReadAs text lines
@@ -47,6 +49,9 @@ pub term_taken : (bytes : List ℕ) (term : RawTerm) → TermFound bytes term �
 term_taken bytes term f = record { is_term = f.is_term; text = f.text; only = λ other h g. one_term_law p.Equation other term h f.is_term (g ∙ sym f.text) }
 
 pub term_refused : (bytes : List ℕ) (kind : ReadKind) → term_fault bytes ≡ Some kind → TermRefused bytes 1 kind
-term_refused bytes kind f = record { none = λ term h g. let n = term_read term h in let m = ap term_fault g in cc; first = refl; fault = f }
+term_refused bytes kind f = record { none = λ term h g. let n = term_read term h in let m = ap term_fault g in cc; first = refl; kind = term_kind bytes kind f }
+
+pub one_term_fault : OneTermFault
+one_term_fault bytes number other kind why f g = (f.first ∙ sym g.first, one_term_kind bytes kind why f.kind g.kind)
 
 pub ruleset term_steps = (term_taken, term_refused)

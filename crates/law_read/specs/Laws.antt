@@ -11,7 +11,7 @@ use Rattle.law_read.specs.declared.stage.Stage.{Stage}
 use Rattle.law_read.specs.Spelling.{line_spelling, sig_spelling, term_spelling}
 use Rattle.law_read.specs.Terms.{IsTerm}
 use Rattle.law_read.specs.Signature.{IsRawSig}
-use Rattle.law_read.specs.Texts.{FirstFault}
+use Rattle.law_read.specs.Texts.{FirstFault, TermRefused}
 use Rattle.law_read.specs.declared.error.ReadKind.{ReadKind}
 use Rattle.law_read.specs.Lines.{IsLine}
 use Rattle.law_read.specs.Stages.{IsOfVersion, allows, line_key}
@@ -44,6 +44,9 @@ RefusedIsNoText = (text : List ℕ) (number : ℕ) (kind : ReadKind) → FirstFa
 
 abbrev pub OneFault : Type 0
 OneFault = (text : List ℕ) (number other : ℕ) (kind why : ReadKind) → FirstFault text number kind → FirstFault text other why → (number ≡ other) × (kind ≡ why)
+
+abbrev pub OneTermFault : Type 0
+OneTermFault = (bytes : List ℕ) (number other : ℕ) (kind why : ReadKind) → TermRefused bytes number kind → TermRefused bytes other why → (number ≡ other) × (kind ≡ why)
 
 -- A text is the spelling of one signature at most.
 abbrev pub OneText : Type 0

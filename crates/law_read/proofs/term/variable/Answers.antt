@@ -1,3 +1,4 @@
+use Rattle.law_read.specs.declared.want.Bounds.TheVariants.{Kept}
 use Rattle.law_read.proofs.Cuts.{variable_read}
 use Rattle.law_read.proofs.term.variable.Goals as goal
 
