@@ -1,11 +1,11 @@
 -- Whatever is taken without the bounds begins what the grammar without them spells: what is wanted, as texts.
-use Rattle.std.proofs.Common.{◌≡◌, ℕ, suc, ◌+◌, ◌<◌, ◌^◌, ◌==◌, Bool, true, false, ◌&&◌, ◌||◌, List, [], ◌∷◌, ◌++◌, Option, Some, None, refl, ap, sym, subst, ◌∙◌, arith, cond, map, length, codes, decimal, nat_lt}
+use Rattle.std.proofs.Common.{◌≡◌, ℕ, ◌+◌, ◌<◌, ◌^◌, Bool, true, false, ◌&&◌, ◌||◌, List, [], ◌∷◌, ◌++◌, refl, ap, sym, subst, ◌∙◌, arith, map, length, codes, decimal, nat_lt}
 use Rattle.std.proofs.lemmas.Bool.Decides.{nat_tests}
-use Rattle.std.proofs.lemmas.List.{append_assoc, append-nil}
+use Rattle.std.proofs.lemmas.List.{append_assoc}
 use Rattle.std.specs.List.{list_all, AllByRecursion}
 use Rattle.std.specs.Str.{bytes_eq}
 use Rattle.law_text.specs.Words.{is_word_of_letters, number_below}
-use Rattle.law_text.specs.Pieces.{Piece, begun_by, is_plain, lengthened, piece_text, pieces}
+use Rattle.law_text.specs.Pieces.{Piece, piece_text, pieces}
 use Rattle.law_text.specs.Pieces.Piece.{space, opening, closing, word}
 use Rattle.law_text.proofs.FirstPieces.{begins_apart}
 use Rattle.law_read.specs.declared.raw.RawHead.TheVariants.{Name}
@@ -33,7 +33,7 @@ use Rattle.law_read.specs.Spelling.{arg_spelling, arg_step, bracketed, line_spel
 use Rattle.law_read.specs.Terms.{is_name_in, node_fits, nodes_fit}
 use Rattle.law_read.specs.Lines.{IsLine}
 use Rattle.law_read.specs.Stages.{IsOfVersion, line_key}
-use Rattle.law_read.specs.Walk.{behind, has_mark, is_atom, is_item, is_mark, is_pools, is_version, item_moved, item_place, mark_text, may_come, moved, pools_wants, root_moved, seed_wants, takes}
+use Rattle.law_read.specs.Walk.{behind, is_atom, is_item, is_mark, is_version, item_moved, item_place, mark_text, may_come, moved, pools_wants, root_moved, seed_wants, takes}
 use Rattle.law_read.specs.Rows.{IsTermRow, closer, is_enough}
 use Rattle.law_read.proofs.Again.{and_true, apart_close, apart_none, apart_space, is_solid, solid_first}
 use Rattle.law_read.proofs.AgainTerms.{counted, spaced_is}
@@ -42,7 +42,7 @@ use Rattle.law_read.proofs.Found.{Atom, atom_found}
 use Rattle.law_read.proofs.LinesFound.{number_by}
 use Rattle.law_read.proofs.Parts.{same_bytes}
 use Rattle.law_read.proofs.RowNames.{term_is}
-use Rattle.law_read.proofs.RowSteps.{both, leaf_text, taken_item}
+use Rattle.law_read.proofs.RowSteps.{both, leaf_text}
 
 -- Terms of the grammar without bounds, as words.
 abbrev pub TermWord : Place → List ℕ → Type 0
@@ -285,12 +285,12 @@ seed_given rest bytes g =
     let fourth : List (List ℕ) = codes "count" ∷ last in let third : List (List ℕ) = decimal c.0 ∷ fourth in let second : List (List ℕ) = codes "height" ∷ third in
     record {
       said = spaced (decimal a.0 ∷ second);
-      line = record { line = l.PoolsSeed a.0 c.0 f.0; spelled = (a.1, c.1, f.1); begun = refl; form = λ version. refl; text = refl };
+      line = record { line = l.PoolsSeed a.0 c.0 f.0; spelled = (a.1, c.1, f.1); begun = refl; form = λ version. refl; text = refl {a = line_spelling (l.PoolsSeed a.0 c.0 f.0)} };
       more = f.2.more;
       text = words_on (decimal a.0) second bytes a.2.more f.2.more a.2.text
           (words_on (codes "height") third a.2.more b.more f.2.more b.text
           (words_on (decimal c.0) fourth b.more c.2.more f.2.more c.2.text
-          (words_on (codes "count") last c.2.more d.more f.2.more d.text (words_on (decimal f.0) [] d.more f.2.more f.2.more f.2.text (refl {a = f.2.more})))));
+          (words_on (codes "count") last c.2.more d.more f.2.more d.text (words_on (decimal f.0) [] d.more f.2.more f.2.more f.2.text refl))));
       left = f.2.left;
     }
 

@@ -1,6 +1,5 @@
 -- Whatever is taken without the bounds begins what the grammar without them spells: lines and terms.
 use Rattle.std.proofs.Common.{◌≡◌, ℕ, ◌+◌, ◌<◌, ◌^◌, Bool, true, false, ◌||◌, List, [], ◌∷◌, ◌++◌, Option, Some, None, refl, ap, sym, subst, ◌∙◌, arith, map, length, codes, decimal, nat_lt}
-use Rattle.std.proofs.lemmas.Bool.Decides.{nat_tests}
 use Rattle.std.proofs.lemmas.List.{append-nil, length-map}
 use Rattle.std.specs.List.{list_all, AllByRecursion}
 use Rattle.std.specs.Str.{bytes_eq}
@@ -23,16 +22,14 @@ use Rattle.law_read.specs.declared.want.Place.TheVariants as p
 use Rattle.law_read.specs.declared.want.Row.{Row}
 use Rattle.law_read.specs.declared.want.Row.TheVariants as r
 use Rattle.law_read.specs.declared.want.Ending.TheVariants as e
-use Rattle.law_read.specs.declared.want.Mark.{Mark}
 use Rattle.law_read.specs.declared.want.Mark.TheVariants.{Equals, Arrow}
 use Rattle.law_read.specs.Spelling.{arg_spelling, line_spelling, spaced, term_spelling, term_words}
 use Rattle.law_read.specs.Terms.{IsTerm, is_name_in, nodes_fit}
 use Rattle.law_read.specs.Lines.{AreSorts, AreValues, IsLine}
 use Rattle.law_read.specs.Stages.{IsOfVersion, allows, key_text, line_key, of_version}
-use Rattle.law_read.specs.Walk.{allows_found, is_version, key_of, line_wants, mark_text, setting, takes, wants_found}
+use Rattle.law_read.specs.Walk.{allows_found, key_of, line_wants, setting, wants_found}
 use Rattle.law_read.specs.Rows.{IsNameRow}
 use Rattle.law_read.proofs.Again.{and_true, is_solid, solid_first}
-use Rattle.law_read.proofs.AgainLines.{apart_words, key_solid}
 use Rattle.law_read.proofs.Begins.{Fit, Given, IsPiece, Spaced, Taken, Words, fills, fixed_given, given_apart, name_given, number_given, terms_of}
 use Rattle.law_read.proofs.Closes.{StartsApart, Wanted, piece_left}
 use Rattle.law_read.proofs.LineSteps.{key_is, some_values}

@@ -1,5 +1,5 @@
 -- A text spells one term at most: its words are told apart, and each tells its term.
-use Rattle.std.proofs.Common.{◌≡◌, ℕ, zero, suc, ◌^◌, ◌<◌, Bool, true, false, ◌&&◌, ◌==◌, List, [], ◌∷◌, ◌++◌, Option, Some, None, refl, ap, sym, subst, ◌∙◌, arith, map, length, nat_le, nat_lt, cond, decimal}
+use Rattle.std.proofs.Common.{◌≡◌, ℕ, suc, ◌^◌, ◌<◌, Bool, true, false, ◌&&◌, ◌==◌, List, [], ◌∷◌, ◌++◌, Option, Some, None, refl, ap, sym, subst, ◌∙◌, arith, map, length, nat_le, nat_lt, cond, decimal}
 use Rattle.std.proofs.lemmas.Bool.Decides.{nat_tests}
 use Rattle.std.proofs.lemmas.List.{append_assoc, append-nil}
 use Rattle.std.specs.List.{list_all, AllByRecursion}
@@ -16,7 +16,7 @@ use Rattle.law_read.specs.declared.want.Bounds.TheVariants.{Kept}
 use Rattle.law_read.specs.declared.want.Place.{Place}
 use Rattle.law_read.specs.declared.want.Place.TheVariants as p
 use Rattle.law_read.specs.Spelling.{arg_spelling, arg_step, bracketed, head_spelling, joined, spaced, term_words}
-use Rattle.law_read.specs.FirstArg.{above, word_at, word_by}
+use Rattle.law_read.specs.FirstArg.{word_at, word_by}
 use Rattle.law_read.specs.Laws.{OneTerm}
 use Rattle.law_read.specs.Terms.{head_fits, is_empty, is_name_in, node_fits, nodes_fit, within}
 use Rattle.law_read.specs.Numbers.{cut}

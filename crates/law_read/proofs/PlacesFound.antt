@@ -26,11 +26,11 @@ use Rattle.law_read.specs.Places.{Begun, BegunTerm, FirstPlace, KindBy, LineKind
 use Rattle.law_read.proofs.Again.{and_true, apart_close, apart_space, gap_on, is_solid, taken_on}
 use Rattle.law_read.proofs.AgainLines.{line_on, root_end}
 use Rattle.law_read.proofs.Begins.{IsPiece, Taken, piece_on}
-use Rattle.law_read.proofs.Closes.{Apart, Closes, StartsApart, Wanted, closes, piece_left}
-use Rattle.law_read.proofs.Completes.{behind_append, lines_append, order_append, to_the_end}
+use Rattle.law_read.proofs.Closes.{Apart, StartsApart, Wanted, closes, piece_left}
+use Rattle.law_read.proofs.Completes.{behind_append, order_append, to_the_end}
 use Rattle.law_read.proofs.Found.{root_found}
 use Rattle.law_read.proofs.FreeLines.{line_begins, term_begins}
-use Rattle.law_read.proofs.Freed.{line_freed, lines_freed, term_freed}
+use Rattle.law_read.proofs.Freed.{lines_freed, term_freed}
 use Rattle.law_read.proofs.LinesFound.{end_at, line_found}
 use Rattle.law_read.proofs.Orders.{in_order_spelled, spelled_in_order}
 use Rattle.law_read.proofs.RowSteps.{both}
