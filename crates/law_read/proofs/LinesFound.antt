@@ -25,8 +25,8 @@ use Rattle.law_read.specs.Spelling.{arg_spelling, spaced, term_spelling, term_wo
 use Rattle.law_read.specs.Terms.{is_name_in}
 use Rattle.law_read.specs.Stages.{key_text, of_version}
 use Rattle.law_read.specs.declared.shape.Shape.TheVariants as s
-use Rattle.law_read.specs.Walk.{allows_found, key_of, line_wants, mark_text, pools_wants, seed_wants, setting, walk, wants_found}
-use Rattle.law_read.specs.Faults.{is_closed_by, is_printed, is_spaced, kind_in_order}
+use Rattle.law_read.specs.Walk.{allows_found, key_of, line_wants, mark_text, pools_wants, seed_wants, setting, walk, wants_found, kind_in_order}
+use Rattle.law_read.specs.Faults.{is_closed_by, is_printed, is_spaced}
 use Rattle.law_read.specs.Laws.{ReadIsSpelled}
 use Rattle.law_read.specs.declared.error.ReadKind.{ReadKind}
 use Rattle.std.specs.List.{list_all}
@@ -41,7 +41,7 @@ use Rattle.law_read.proofs.SomeFirst.{some_first}
 use Rattle.law_read.proofs.Walks.{past_end}
 
 -- single pieces
-number_by : (o : Option ℕ) (bytes : List ℕ) → number_below (2 ^ 63) bytes ≡ o → is_some o ≡ true → (n : ℕ) × (n < 2 ^ 63) × (bytes ≡ decimal n)
+pub number_by : (o : Option ℕ) (bytes : List ℕ) → number_below (2 ^ 63) bytes ≡ o → is_some o ≡ true → (n : ℕ) × (n < 2 ^ 63) × (bytes ≡ decimal n)
 number_by None bytes e h = absurd cc
 number_by (Some n) bytes e h = let f = number_found (2 ^ 63) n bytes (omega arith) e in (n, f.0, f.1)
 
@@ -65,7 +65,7 @@ name_at : (old : List ℕ) (rest : List Want) → walk 0 (w.Name ∷ rest) (piec
 name_at old rest h =
     let x = next_word 0 w.Name rest old refl h in record { name = x.bytes; named = x.took.taken; behind = record { new = x.new; read = name_read old x.new x.bytes x.bytes x.took refl; left = x.left } }
 
-end_at : (old : List ℕ) → walk 0 [] (pieces old) ≡ None → old ≡ []
+pub end_at : (old : List ℕ) → walk 0 [] (pieces old) ≡ None → old ≡ []
 end_at [] h = refl
 end_at (b ∷ bs) h = let f = some_first b bs in let q = past_end 0 (b ∷ bs) f.rest f.piece f.first.first in absurd (cc)
 

@@ -175,11 +175,11 @@ item_bracket nodes row level count ending old mid new term more before place eb 
 
 pub item_leaf : (nodes : ℕ) (row : Row) (level count : ℕ) (ending : Ending) (old new bytes : List ℕ) (head : RawHead) (args : List RawTerm) (before : ℕ) (place : Place)
     → before ≡ before_item row nodes → place ≡ item_place row → args ≡ [] → IsTermRow row level → TookWord nodes (w.Item row level count ending) old new bytes
-    → is_mark ending bytes ≡ false → AtomRead place bytes head → ItemRead nodes row level count ending old new (roll-RawTerm (record { head = head; args = args })) (before + 1)
+    → is_mark ending bytes ≡ false → AtomRead Kept place bytes head → ItemRead nodes row level count ending old new (roll-RawTerm (record { head = head; args = args })) (before + 1)
 item_leaf nodes row level count ending old new bytes head args before place eb ep none is_row took h atom =
     subst (λ n. ItemRead nodes row level count ending old new (roll-RawTerm (record { head = head; args = args })) (n + 1)) (sym eb)
     (subst (λ l. ItemRead nodes row level count ending old new (roll-RawTerm (record { head = head; args = l })) (before_item row nodes + 1)) (sym none)
-    (item_word nodes row level count ending old new bytes head is_row took.first took.text took.taken h (subst (λ p. AtomRead p bytes head) ep atom)))
+    (item_word nodes row level count ending old new bytes head is_row took.first took.text took.taken h (subst (λ p. AtomRead Kept p bytes head) ep atom)))
 
 pub goes_of : (nodes : ℕ) (row : Row) (level count n : ℕ) (ending : Ending) (old new : List ℕ) (b : Bool) → RowStep nodes row level count ending old new b → b ≡ true → count ≡ n
     → RowGoes nodes row level n ending old new

@@ -20,7 +20,8 @@ use Rattle.law_valid.specs.Stated.{stated, spread_at, live_at}
 use Rattle.law_valid.specs.Splits.{leaves_of, cuts_of}
 use Rattle.law_valid.specs.Trees.{HasSpread, IsEarlierSort, sorts_in, IsTree, AreTrees}
 use Rattle.law_valid.specs.Valid.{IsValid}
-use Rattle.law_valid.specs.Judged.{Yes, Judging, Whole, whole_step, whole, of_term_cut, of_schema_cut, Entries, entry_after, InTrees, Judged}
+use Rattle.law_valid.specs.Judged.{Judging, Whole, whole_step, whole, of_term_cut, of_schema_cut, Entries, entry_after, InTrees, Judged}
+use Rattle.law_valid.specs.declared.rule.Answer.TheVariants.{Yes}
 use Rattle.law_valid.proofs.StatedFacts.{each_both, each_right}
 use Rattle.law_valid.proofs.Apart.{each_left, branch_induct, map_twice, leaves-Leaf, leaves-Split, cuts-Leaf, cuts-Split, root_cut}
 use Rattle.law_valid.proofs.Walks.{items_of, added_by, AddThemselves, Walk, walk_rising, walk_each, walk_finds, exact_next, exact_spent}

@@ -18,7 +18,9 @@ use Rattle.law_valid.specs.Splits.{leaves_of, AreApart, Tells}
 use Rattle.law_valid.specs.Trees.{value_of, HasSchemas, HasTerms, HasSpread, IsEarlierSort}
 use Rattle.law_valid.specs.Valid.{IsNextNumber, IsLemma, IsKilled, IsMoved}
 use Rattle.law_valid.specs.Expected.{IsFirstAbove, IsSpent}
-use Rattle.law_valid.specs.Judged.{Answer, Yes, No, Over, If, Valued, Tests, AtTests, Background, Block, IsBlockSpent, IsNextTerm, IsNextSchema, AreSchemasSpent, HasSides, Entries, entry_after, with_term, Judging, all_cuts, ItemValued, ItemsValued, CutsTell, InTrees}
+use Rattle.law_valid.specs.Judged.{If, Valued, Tests, AtTests, Background, Block, IsBlockSpent, IsNextTerm, IsNextSchema, AreSchemasSpent, HasSides, Entries, entry_after, with_term, Judging, all_cuts, ItemValued, ItemsValued, CutsTell, InTrees}
+use Rattle.law_valid.specs.declared.rule.Answer.{Answer}
+use Rattle.law_valid.specs.declared.rule.Answer.TheVariants.{Yes, No, Over}
 
 -- a condition before the rest
 pub if_yes : {P T : Type 0} {rule : Rule} {entry : ℕ} → (P × T) ⊎ ((P → ⊥) × (Yes ≡ No rule entry)) → P × T

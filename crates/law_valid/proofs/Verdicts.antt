@@ -14,7 +14,9 @@ use Rattle.law_valid.specs.declared.rule.Rule.TheVariants as r
 use Rattle.law_valid.specs.Stated.{numbered}
 use Rattle.law_valid.specs.Splits.{AreApart}
 use Rattle.law_valid.specs.Trees.{value_of}
-use Rattle.law_valid.specs.Judged.{Answer, No, Over, If, Valued, Tests, AtTests, Background, Block, Entries, entry_after, with_term, Judging, all_cuts, ItemValued, ItemsValued, CutsTell, InTrees, Judged}
+use Rattle.law_valid.specs.Judged.{If, Valued, Tests, AtTests, Background, Block, Entries, entry_after, with_term, Judging, all_cuts, ItemValued, ItemsValued, CutsTell, InTrees, Judged}
+use Rattle.law_valid.specs.declared.rule.Answer.{Answer}
+use Rattle.law_valid.specs.declared.rule.Answer.TheVariants.{No, Over}
 
 -- where both sides have one answer each by the rest, they have one by the whole
 if_one : {P T U : Type 0} {a b fault : Answer} → (T → U → a ≡ b) → (P × T) ⊎ ((P → ⊥) × (a ≡ fault)) → (P × U) ⊎ ((P → ⊥) × (b ≡ fault)) → a ≡ b

@@ -5,8 +5,9 @@ use Rattle.law_sig.specs.declared.parts.SigParts.{SigParts}
 use Rattle.law_valid.specs.declared.certificate.Entry.{Entry}
 use Rattle.law_valid.specs.declared.certificate.SortTree.{SortTree}
 use Rattle.law_valid.specs.Valid.{IsValid}
-use Rattle.law_valid.specs.Judged.{Answer, Judged}
-use Rattle.law_valid.specs.Judged.Answer.{Yes}
+use Rattle.law_valid.specs.Judged.{Judged}
+use Rattle.law_valid.specs.declared.rule.Answer.{Answer}
+use Rattle.law_valid.specs.declared.rule.Answer.TheVariants.{Yes}
 
 -- no rule fails and no evaluation is over exactly where the certificate is valid
 abbrev pub YesIsValid : Type 0

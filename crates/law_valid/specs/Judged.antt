@@ -19,6 +19,8 @@ use Rattle.law_valid.specs.declared.certificate.Class.{Class}
 use Rattle.law_valid.specs.declared.certificate.Entry.{Entry}
 use Rattle.law_valid.specs.declared.certificate.Entry.TheVariants as e
 use Rattle.law_valid.specs.declared.certificate.SortTree.{SortTree}
+use Rattle.law_valid.specs.declared.rule.Answer.{Answer}
+use Rattle.law_valid.specs.declared.rule.Answer.TheVariants.{Yes, No, Over}
 use Rattle.law_valid.specs.declared.rule.Rule.{Rule}
 use Rattle.law_valid.specs.declared.rule.Rule.TheVariants as r
 use Rattle.law_valid.specs.Stated.{stated, schema_at, spread_at, live_at, numbered}
@@ -29,12 +31,6 @@ use Rattle.law_valid.specs.Valid.{IsWithinLimits, IsNextNumber, IsLemma, IsKille
 use Rattle.law_valid.specs.Expected.{IsFirstAbove, IsSpent}
 
 -- Answers
-
--- every rule holds; a rule fails at an entry; a term has no value at a test, in an entry
-pub data Answer : Type 0 where
-  Yes : Answer
-  No : Rule → ℕ → Answer
-  Over : ℕ → ℕ → Tree → Answer
 
 -- where the condition holds, the rest decides; else this fault is the answer
 abbrev pub If : Type 0 → Answer → (Answer → Type 0) → Answer → Type 0

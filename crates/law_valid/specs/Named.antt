@@ -32,7 +32,9 @@ use Rattle.law_valid.specs.declared.certificate.SortTree.{SortTree}
 use Rattle.law_valid.specs.declared.certificate.Step.{Step}
 use Rattle.law_valid.specs.declared.rule.Rule.TheVariants as r
 use Rattle.law_valid.specs.Valid.{IsValid}
-use Rattle.law_valid.specs.Judged.{Answer, No, Judged}
+use Rattle.law_valid.specs.Judged.{Judged}
+use Rattle.law_valid.specs.declared.rule.Answer.{Answer}
+use Rattle.law_valid.specs.declared.rule.Answer.TheVariants.{No}
 
 -- Terms
 

@@ -8,4 +8,4 @@ mod rule;
 
 pub use certificate::{Bind, Branch, Class, Entry, SortTree, Step};
 pub use laws::{certificate_laws, checking_laws, coverage_laws};
-pub use rule::Rule;
+pub use rule::{Answer, Rule};

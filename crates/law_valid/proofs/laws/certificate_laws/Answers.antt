@@ -1,13 +1,13 @@
 -- Each law is proved by a lemma.
 use Rattle.std.proofs.Common.{inl, inr}
 use Rattle.law_cert.specs.declared.cert.Cert.{Cert}
-use Rattle.law_valid.specs.Judged.{Yes}
+use Rattle.law_valid.specs.declared.rule.Answer.TheVariants.{Yes}
 use Rattle.law_valid.specs.Named.{pools_named, entries_named, IsValidCert, JudgedCert}
 use Rattle.law_valid.proofs.Covered.{covers}
 use Rattle.law_valid.proofs.Passing.{never_no}
 use Rattle.law_valid.proofs.Checked.{yes_valid, valid_yes}
 use Rattle.law_valid.proofs.Reading.{one_reading}
-use Rattle.law_valid.proofs.Meanings.{one_cert_answer}
+use Rattle.law_valid.proofs.Meanings.{one_cert_answer, names_back}
 use Rattle.law_valid.proofs.Growing.{spelled_means}
 use Rattle.law_valid.proofs.laws.certificate_laws.Goals as goal
 
@@ -25,4 +25,5 @@ returns c = record {
   one = one_cert_answer;
   reading = one_reading;
   spelled = spelled_means;
+  names = names_back;
 }
