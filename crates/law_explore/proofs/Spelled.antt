@@ -40,9 +40,11 @@ use Rattle.law_read.specs.declared.raw.RawLine.{RawLine}
 use Rattle.law_types.specs.Naming.{sort_name, symbol_name, raw_term, named_term, name_step}
 use Rattle.law_types.specs.Typed.{HasFewSorts}
 use Rattle.law_explore.proofs.NameFacts.{name_same, named_nodes, named_depth}
+use Rattle.law_pool.proofs.GivenFacts.{have_count}
 use Rattle.law_gen.specs.Draws.{choices, chosen, Drawn, in_turn, value_drawn, values_drawn, sorts_of, pool_drawn, pools_drawn, generator_of, pools_from, pools_by}
 use Rattle.law_gen.specs.Sizes.{AreSmall}
 use Rattle.law_gen.proofs.DrawFacts.{above_zero, chosen_within, drawing, in_turn_length}
+use Rattle.law_gen.proofs.First.{length_first}
 use Rattle.law_gen.proofs.PoolFacts.{pools_count}
 use Rattle.law_cert.specs.declared.cert.LawList.{LawList}
 use Rattle.law_cert.specs.Certificates.{IsWritten, IsValues, IsPlainLaw, IsListText}
@@ -65,16 +67,6 @@ each_within P (x ∷ xs) (suc at) d less have = each_within P xs at d (omega ari
 each_first : {A : Type 0} (P : A → Type 0) (n : ℕ) (f : ℕ → A) → ((i : ℕ) → i < n → P (f i)) → Each P (first_of n f)
 each_first P zero f have = tt
 each_first P (suc n) f have = (have 0 (omega arith), each_first P n (λ i. f (suc i)) (λ i less. have (suc i) (omega arith)))
-
-length_first : {A : Type 0} (n : ℕ) (f : ℕ → A) → length (first_of n f) ≡ n
-length_first zero f = refl
-length_first (suc n) f = ap suc (length_first n (λ i. f (suc i)))
-
-have_count : (parts : SigParts) (ts : List Tree) (ws : List SortId) → HaveSorts parts ts ws → length ts ≡ length ws
-have_count parts [] [] h = refl
-have_count parts [] (w ∷ ws) h = absurd h
-have_count parts (t ∷ ts) [] h = absurd h
-have_count parts (t ∷ ts) (w ∷ ws) h = ap suc (have_count parts ts ws h.1)
 
 found : {A : Type 0} (xs : List A) (at : ℕ) → at < length xs → (x : A) × (slice_get xs at ≡ Some x)
 found [] at less = absurd (omega arith)
