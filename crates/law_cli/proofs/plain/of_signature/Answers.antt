@@ -4,7 +4,7 @@ use Rattle.law_cli.proofs.AnswerFacts.{refused}
 use Rattle.law_cli.proofs.plain.of_signature.Goals as goal
 
 pub write_list-requires : goal.write_list-requires
-write_list-requires c = ?
+write_list-requires c = c.in-Ok.ensures.listed.spelled
 
 pub returns-in_ok-text-in-Ok : goal.returns-in_ok-text-in-Ok
 returns-in_ok-text-in-Ok c = record {
@@ -13,7 +13,7 @@ returns-in_ok-text-in-Ok c = record {
   stated = record { text = record { raw = c.requires.raw; spelled = refl }; typed = c.requires.typed };
   list = c.in-Ok.list;
   listing = c.in-Ok.ensures.listed;
-  printed = c.in_ok-text.ensures;
+  printed = c.in_ok-text-in-Ok.ensures;
 }
 
 pub returns-in_ok-status_for-in-Err : goal.returns-in_ok-status_for-in-Err
