@@ -1,5 +1,5 @@
 -- The law list by its names is one that the grammar spells.
-use Rattle.std.proofs.Common.{◌≡◌, ℕ, zero, suc, ◌+◌, ◌-◌, ◌^◌, ◌<◌, ◌≤◌, max, Bool, true, false, ◌&&◌, nat_lt, nat_le, ltb-true, lt-ltb, le-leb, Some, option_map, slice_get, slice_index_or, List, [], ◌∷◌, length, map, sym, refl, ap, ap₂, ◌∙◌, subst, arith}
+use Rattle.std.proofs.Common.{◌≡◌, ℕ, zero, suc, ◌+◌, ◌-◌, ◌^◌, ◌<◌, ◌≤◌, Bool, true, false, ◌&&◌, nat_le, ltb-true, lt-ltb, le-leb, Some, option_map, slice_get, slice_index_or, List, [], ◌∷◌, length, map, sym, refl, ap, ap₂, ◌∙◌, subst, arith}
 use Rattle.std.specs.List.{list_all, AllByRecursion}
 use Rattle.std.proofs.lemmas.List.{length-map}
 use Rattle.std.proofs.lemmas.Option.{slice_get_within}
@@ -8,7 +8,7 @@ use Rattle.rand_pcg.specs.Pcg.{pcg32}
 use Rattle.law_sig.specs.Lists.{Each, total}
 use Rattle.law_sig.specs.Names.{is_name}
 use Rattle.law_sig.specs.Trees.{node_count, depth, greatest}
-use Rattle.law_sig.specs.Signature.{symbol_at, args_of, is_declared_sort, vars_at, width_at, weight_at, sort_of}
+use Rattle.law_sig.specs.Signature.{symbol_at, args_of, vars_at, width_at, weight_at, sort_of}
 use Rattle.law_sig.specs.Tests.{InU, Pools, first_of, weight, is_explored, is_bounded, bounded_step}
 use Rattle.law_sig.specs.WellFormed.{IsBetween, is_constructor, value_step, IsValueOf, IsWritable, IsDeclared, IsPoolFrom, IsPool, IsSeeded, IsPoolRule, IsWellFormed, is_within_height}
 use Rattle.law_sig.specs.Laws.{IsLaw}
@@ -41,7 +41,7 @@ use Rattle.law_types.specs.Naming.{sort_name, symbol_name, raw_term, named_term,
 use Rattle.law_types.specs.Typed.{HasFewSorts}
 use Rattle.law_explore.proofs.NameFacts.{name_same, named_nodes, named_depth}
 use Rattle.law_pool.proofs.GivenFacts.{have_count}
-use Rattle.law_gen.specs.Draws.{choices, chosen, Drawn, in_turn, value_drawn, values_drawn, sorts_of, pool_drawn, pools_drawn, generator_of, pools_from, pools_by}
+use Rattle.law_gen.specs.Draws.{choices, chosen, Drawn, in_turn, value_drawn, values_drawn, sorts_of, pool_drawn, generator_of, pools_from, pools_by}
 use Rattle.law_gen.specs.Sizes.{AreSmall}
 use Rattle.law_gen.proofs.DrawFacts.{above_zero, chosen_within, drawing, in_turn_length}
 use Rattle.law_gen.proofs.First.{length_first}
@@ -261,7 +261,7 @@ drawn_fine parts well (suc n) sort g within =
     let drawn = drawing parts (suc n) sort g after among word sorts well within refl refl refl (ap (option_map args_of) there) in
     let fields = in_turn (value_drawn parts n) sorts after in
     let each = drawn_on (λ s. is_within_height parts n s ≡ true) (IsDrawnFine parts n) (value_drawn parts n) (drawn_fine parts well n) sorts after
-        (subst (λ m. Each (λ s. is_within_height parts m s ≡ true) sorts) less_one drawn.within) in
+    (subst (λ m. Each (λ s. is_within_height parts m s ≡ true) sorts) less_one drawn.within) in
     let made = subst (λ m. (value_drawn parts (suc n) sort g).made ≡ App f (in_turn (value_drawn parts m) sorts after).made) less_one drawn.made in
     subst (IsDrawnFine parts (suc n)) (sym made) (record {
       fits = app_fits Value parts well f fields.made less (subst (λ k. k ≤ 8) (sym (in_turn_length (value_drawn parts n) sorts after)) drawn.few)

@@ -99,13 +99,7 @@ pub fn plain(alloc: Global, raw: RawSig, sig: &Sig, terms: u64) -> Result<LawLis
     ensures refused { IfErr result (IsTold sig.now (IsRefusal sig.now terms)) }
 {
     let Listed { pools, laws } = by_numbers(alloc, sig, terms)?;
-    Ok(named_list(
-        alloc,
-        raw,
-        sig,
-        pools.as_slice(),
-        laws.as_slice(),
-    )?)
+    Ok(named_list(alloc, raw, sig, pools.as_slice(), laws.as_slice())?)
 }
 
 /// Does nothing. Its contract says of every signature that it has at most one refusal, and none within its limits.

@@ -68,11 +68,7 @@ fn named_pools(
 }
 
 /// The values of each sort, in order.
-fn named_values(
-    alloc: Global,
-    sig: &Sig,
-    pool: &[Seq<Tree>],
-) -> Result<Seq<RawValues>, NoMemory>
+fn named_values(alloc: Global, sig: &Sig, pool: &[Seq<Tree>]) -> Result<Seq<RawValues>, NoMemory>
     requires { HasFewSorts pool.now }
     ensures { IfOk result (λ found. found ≡ named_values sig.now 0 pool.now) }
 {

@@ -1,5 +1,4 @@
-use Rattle.std.proofs.Common.{ap₂, arith, rules, ◌∙◌}
-use Rattle.law_cert.specs.declared.cert.LawList.{LawList}
+use Rattle.std.proofs.Common.{rules}
 use Rattle.law_explore.proofs.Spelled.{few_sorts, list_spelled}
 use Rattle.law_explore.proofs.named.named_list.Goals as goal
 
