@@ -181,8 +181,7 @@ record Opened (row : Row) (count : ℕ) (ending : Ending) (rest : List Want) (by
 opened_back : (row : Row) (level count : ℕ) (ending : Ending) (rest : List Want) (bytes : List ℕ) → IsTermRow row 1 → Opened row count ending rest bytes → Given (w.Item row level count ending ∷ rest) (40 ∷ bytes)
 opened_back row level count ending rest bytes is o =
     let x = bracketed o.name o.args.words in
-    let text : 40 ∷ bytes ≡ x ++ o.mid = ap (λ t. 40 ∷ t) (o.text ∙ ap (λ t. o.name ++ t) o.args.text) ∙ bracket_text o.name o.args.words o.mid o.args.some in
-    (
+    let text : 40 ∷ bytes ≡ x ++ o.mid = ap (λ t. 40 ∷ t) (o.text ∙ ap (λ t. o.name ++ t) o.args.text) ∙ bracket_text o.name o.args.words o.mid o.args.some in (
       o.more,
       subst (λ t. Words row count ending (32 ∷ t) o.more) (sym text) (more_words row count ending x o.mid o.more (bracket_fits row o.name o.args.words is o.named o.args.each) o.others),
       o.left,
@@ -227,8 +226,7 @@ root_back : (t : Bool) (place : Place) (ending : Ending) (rest : List Want) (x b
     → Given (root_moved t place ending rest).wants bytes → Given (w.Root place ending ∷ rest) (x ++ bytes)
 root_back true place ending rest x bytes q h never g =
     let ts = terms_of (r.Args place) g.1.words tt g.1.each in
-    let layer : RawTerm-F RawTerm = record { head = Name x; args = ts.terms } in
-    (
+    let layer : RawTerm-F RawTerm = record { head = Name x; args = ts.terms } in (
       roll-RawTerm layer,
       named_fits place x ts.terms (and_true (is_word_of_letters x) true q refl) ts.each,
       g.0,
@@ -238,8 +236,7 @@ root_back true place ending rest x bytes q h never g =
 root_back false place ending rest x bytes q h never g =
     let a = atom_found Free place x h in
     let layer : RawTerm-F RawTerm = record { head = a.0; args = [] } in
-    let b = behind_given ending rest bytes never g in
-    (
+    let b = behind_given ending rest bytes never g in (
       roll-RawTerm layer,
       fold-roll-RawTerm Bool (node_fits Free place) layer ∙ ap (λ b. b && true) a.1.fits,
       b.0,

@@ -7,7 +7,6 @@ ghost use Rattle.law_read.specs.declared.want.Ending.TheVariants as e;
 ghost use Rattle.law_read.specs.Walk.{walk, term_fault};
 ghost use Rattle.law_read.specs.Spelling.{sig_spelling, term_spelling};
 ghost use Rattle.law_read.specs.Terms.{IsTerm};
-
 ghost use Rattle.law_read.specs.Reads.{Stops};
 ghost use Rattle.law_read.specs.Signature.{IsRawSig};
 ghost use Rattle.law_read.specs.Progress.{StoppedBy, TermFound};
