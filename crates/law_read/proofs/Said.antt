@@ -200,6 +200,12 @@ head_said bounds version bytes g =
     let a = g.2 in
     head_by bounds (bytes_eq a.0 (codes "1")) (bytes_eq a.0 (codes "2")) version bytes a.0 refl refl a.1 (ap (λ t. 32 ∷ (a.0 ++ t)) (sym a.4) ∙ ap (λ t. 32 ∷ t) (sym a.3) ∙ sym g.1)
 
+seed_key : (seed height count : ℕ) → line_key (l.PoolsSeed seed height count) ≡ key.Pools
+seed_key seed height count = refl
+
+seed_form : (seed height count : ℕ) (version : Version) → IsOfVersion version (l.PoolsSeed seed height count)
+seed_form seed height count version = refl
+
 seed_line : (bounds : Bounds) (bytes : List ℕ) → Said bounds seed_wants bytes → PoolsLine bounds (codes "seed" ++ bytes)
 seed_line bounds bytes g =
     let five : List Want = w.Gap ∷ w.Number ∷ [] in let four : List Want = w.Gap ∷ w.Fixed Count ∷ five in let three : List Want = w.Gap ∷ w.Number ∷ four in let two : List Want = w.Gap ∷ w.Fixed Height ∷ three in
@@ -216,8 +222,8 @@ seed_line bounds bytes g =
     record {
       line = l.PoolsSeed a.0 c.0 f.0;
       spelled = (a.1, c.1, f.1);
-      begun = refl;
-      form = λ version. refl;
+      begun = seed_key a.0 c.0 f.0;
+      form = seed_form a.0 c.0 f.0;
       text = ap (λ t. codes "pools seed" ++ t) {x = spaced (decimal a.0 ∷ second)} whole;
     }
 
