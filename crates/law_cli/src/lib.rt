@@ -3,7 +3,6 @@
 
 mod input;
 mod laws;
-mod list;
 mod plain;
 mod status;
 mod top;
