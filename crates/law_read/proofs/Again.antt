@@ -153,7 +153,7 @@ cut_at_dot (b ∷ sort) index h =
 pub less_of : (n k : ℕ) → nat_lt n k ≡ true → n < k
 less_of n k h = grind (arith, nat_tests)
 
-or_true : (a b : Bool) → b ≡ true → (a || b) ≡ true
+pub or_true : (a b : Bool) → b ≡ true → (a || b) ≡ true
 or_true true b h = refl
 or_true false b h = h
 

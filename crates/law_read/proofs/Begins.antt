@@ -1,7 +1,7 @@
 -- Whatever is taken without the bounds begins what the grammar without them spells: what is wanted, as texts.
 use Rattle.std.proofs.Common.{◌≡◌, ℕ, ◌+◌, ◌<◌, ◌^◌, Bool, true, false, ◌&&◌, ◌||◌, List, [], ◌∷◌, ◌++◌, refl, ap, sym, subst, ◌∙◌, arith, map, length, codes, decimal, nat_lt}
 use Rattle.std.proofs.lemmas.Bool.Decides.{nat_tests}
-use Rattle.std.proofs.lemmas.List.{append_assoc}
+use Rattle.std.proofs.lemmas.List.{append_assoc, append-nil, length-map}
 use Rattle.std.specs.List.{list_all, AllByRecursion}
 use Rattle.std.specs.Str.{bytes_eq}
 use Rattle.law_text.specs.Words.{is_word_of_letters, number_below}
@@ -13,10 +13,6 @@ use Rattle.law_read.specs.declared.raw.RawTerm.{RawTerm}
 use Rattle.law_read.specs.declared.raw.RawTerm.TheOpen.{RawTerm-F}
 use Rattle.law_read.specs.declared.raw.RawTerm.TheFolds.{fold-roll-RawTerm}
 use Rattle.law_read.specs.declared.raw.RawTerm.TheViews.{roll-RawTerm}
-use Rattle.law_read.specs.declared.raw.RawLine.{RawLine}
-use Rattle.law_read.specs.declared.raw.RawLine.TheVariants as l
-use Rattle.law_read.specs.declared.stage.Version.{Version}
-use Rattle.law_read.specs.declared.stage.Key.TheVariants as key
 use Rattle.law_read.specs.declared.want.Want.{Want}
 use Rattle.law_read.specs.declared.want.Want.TheVariants as w
 use Rattle.law_read.specs.declared.want.Bounds.{Bounds}
@@ -27,12 +23,8 @@ use Rattle.law_read.specs.declared.want.Row.{Row}
 use Rattle.law_read.specs.declared.want.Row.TheVariants as r
 use Rattle.law_read.specs.declared.want.Ending.{Ending}
 use Rattle.law_read.specs.declared.want.Ending.TheVariants as e
-use Rattle.law_read.specs.declared.want.Mark.{Mark}
-use Rattle.law_read.specs.declared.want.Mark.TheVariants.{Height, Count}
-use Rattle.law_read.specs.Spelling.{arg_spelling, arg_step, bracketed, line_spelling, spaced, term_spelling}
-use Rattle.law_read.specs.Terms.{is_name_in, node_fits, nodes_fit}
-use Rattle.law_read.specs.Lines.{IsLine}
-use Rattle.law_read.specs.Stages.{IsOfVersion, line_key}
+use Rattle.law_read.specs.Spelling.{arg_spelling, arg_step, bracketed, spaced, term_spelling}
+use Rattle.law_read.specs.Terms.{IsTerm, is_name_in, node_fits, nodes_fit}
 use Rattle.law_read.specs.Walk.{behind, is_atom, is_item, is_mark, is_version, item_moved, item_place, mark_text, may_come, moved, pools_wants, root_moved, seed_wants, takes}
 use Rattle.law_read.specs.Rows.{IsTermRow, closer, is_enough}
 use Rattle.law_read.proofs.Again.{and_true, apart_close, apart_none, apart_space, is_solid, solid_first}
@@ -42,6 +34,10 @@ use Rattle.law_read.proofs.Found.{Atom, atom_found}
 use Rattle.law_read.proofs.LinesFound.{number_by}
 use Rattle.law_read.proofs.Parts.{same_bytes}
 use Rattle.law_read.proofs.RowNames.{term_is}
+use Rattle.law_read.proofs.Said.{Plain, PoolsLine, RowAt, RowSaid, Said, pools_line}
+use Rattle.law_read.proofs.LineSteps.{some_values}
+use Rattle.law_read.specs.Lines.{AreSorts, AreValues}
+use Rattle.law_read.specs.Rows.{IsNameRow}
 use Rattle.law_read.proofs.RowSteps.{both, leaf_text}
 
 -- Terms of the grammar without bounds, as words.
@@ -101,20 +97,12 @@ pub record Words (row : Row) (count : ℕ) (ending : Ending) (bytes more : List 
   pub some : is_enough ending row (count + length words)
   pub text : bytes ≡ spaced words ++ (closer ending ++ more)
 
--- how pools are made
-pub record PoolsLine (bytes : List ℕ) : Type 0 where
-  pub line : RawLine
-  pub spelled : IsLine Free line
-  pub begun : line_key line ≡ key.Pools
-  pub form : (version : Version) → IsOfVersion version line
-  pub text : line_spelling line ≡ codes "pools " ++ bytes
-
 -- The bytes are what is wanted, in the grammar without bounds; of a whole line nothing is said here.
 abbrev pub Given : List Want → List ℕ → Type 0
 Given [] bytes = bytes ≡ []
 Given (w.Key stage ∷ rest) bytes = Unit {0}
 Given (w.Version ∷ rest) bytes = (number : List ℕ) × (is_version number ≡ true) × (more : List ℕ) × (bytes ≡ number ++ more) × Given rest more
-Given (w.Pools ∷ rest) bytes = (said : List ℕ) × PoolsLine said × (more : List ℕ) × (bytes ≡ said ++ more) × Given rest more
+Given (w.Pools ∷ rest) bytes = PoolsLine Free bytes
 Given (w.Gap ∷ rest) bytes = (more : List ℕ) × (bytes ≡ 32 ∷ more) × Given rest more
 Given (w.Fixed mark ∷ rest) bytes = (more : List ℕ) × (bytes ≡ mark_text mark ++ more) × Given rest more
 Given (w.Number ∷ rest) bytes = (n : ℕ) × (n < 2 ^ 63) × (more : List ℕ) × (bytes ≡ decimal n ++ more) × Given rest more
@@ -244,59 +232,61 @@ root_back false place ending rest x bytes q h never g =
       b.2,
     )
 
-record Seed (rest : List Want) (bytes : List ℕ) : Type 0 where
-  said : List ℕ
-  line : PoolsLine (codes "seed" ++ said)
-  more : List ℕ
-  text : bytes ≡ said ++ more
-  left : Given rest more
+-- What is given behind a key.
+pub term_free : (place : Place) (term : RawTerm) → nodes_fit Free place term ≡ true → IsTerm Free place term
+term_free place term h = record { nodes = h; size = refl; deep = refl }
 
--- a word behind a space
-pub record Spaced (said : List ℕ) (rest : List Want) (bytes : List ℕ) : Type 0 where
-  pub more : List ℕ
-  pub text : bytes ≡ 32 ∷ (said ++ more)
-  pub left : Given rest more
+names_free : (row : Row) (words : List (List ℕ)) → IsNameRow row → AllByRecursion (Fit row) words → list_all (is_name_in Free) words ≡ true
+names_free row [] is h = refl
+names_free row (x ∷ words) is h = and_true (is_name_in Free x) (list_all (is_name_in Free) words) (named row is h.0) (names_free row words is h.1)
+  where
+    named : (row : Row) → IsNameRow row → Fit row x → is_name_in Free x ≡ true
+    named r.Sorts is h = h
+    named r.Names is h = h
+    named (r.Args place) is h = absurd is
+    named r.Values is h = absurd is
 
-pub number_given : (rest : List Want) (bytes : List ℕ) → Given (w.Gap ∷ w.Number ∷ rest) bytes → (n : ℕ) × (n < 2 ^ 63) × Spaced (decimal n) rest bytes
-number_given rest bytes g = let a = g.2 in (a.0, a.1, record { more = a.2; text = g.1 ∙ ap (λ t. 32 ∷ t) a.3; left = a.4 })
+sorts_free : (words : List (List ℕ)) → AllByRecursion (Fit r.Sorts) words → AreSorts Free words
+sorts_free words h = record { names = names_free r.Sorts words tt h; few = refl }
 
-pub name_given : (rest : List Want) (bytes : List ℕ) → Given (w.Gap ∷ w.Name ∷ rest) bytes → (name : List ℕ) × (is_name_in Free name ≡ true) × Spaced name rest bytes
-name_given rest bytes g = let a = g.2 in (a.0, a.1, record { more = a.2; text = g.1 ∙ ap (λ t. 32 ∷ t) a.3; left = a.4 })
+values_free : (terms : List RawTerm) → list_all (λ b. b) (map (nodes_fit Free p.Value) terms) ≡ true → AreValues Free terms
+values_free [] h = tt
+values_free (x ∷ terms) h = let q = both (nodes_fit Free p.Value x) (list_all (λ b. b) (map (nodes_fit Free p.Value) terms)) h in (term_free p.Value x q.0, values_free terms q.1)
 
-pub fixed_given : (mark : Mark) (rest : List Want) (bytes : List ℕ) → Given (w.Gap ∷ w.Fixed mark ∷ rest) bytes → Spaced (mark_text mark) rest bytes
-fixed_given mark rest bytes g = let a = g.2 in record { more = a.0; text = g.1 ∙ ap (λ t. 32 ∷ t) a.1; left = a.2 }
+some_terms : (terms : List RawTerm) (words : List (List ℕ)) → map arg_spelling terms ≡ words → nat_lt 0 (0 + length words) ≡ true → 0 < length terms
+some_terms terms words same h = let n = some_values (0 + length words) h in let m = length-map terms arg_spelling in let k = ap length same in omega arith
 
--- words in front of more words
-pub words_on : (x : List ℕ) (words : List (List ℕ)) (bytes more tail : List ℕ) → bytes ≡ 32 ∷ (x ++ more) → more ≡ spaced words ++ tail → bytes ≡ spaced (x ∷ words) ++ tail
-words_on x words bytes more tail e f = e ∙ ap (λ t. 32 ∷ (x ++ t)) f ∙ sym (spaced_is x words tail)
-
-seed_given : (rest : List Want) (bytes : List ℕ) → Given (seed_wants ++ rest) bytes → Seed rest bytes
-seed_given rest bytes g =
-    let five : List Want = w.Gap ∷ w.Number ∷ rest in let four : List Want = w.Gap ∷ w.Fixed Count ∷ five in let three : List Want = w.Gap ∷ w.Number ∷ four in let two : List Want = w.Gap ∷ w.Fixed Height ∷ three in
-    let a = number_given two bytes g in
-    let b = fixed_given Height three a.2.more a.2.left in
-    let c = number_given four b.more b.left in
-    let d = fixed_given Count five c.2.more c.2.left in
-    let f = number_given rest d.more d.left in
-    let last : List (List ℕ) = decimal f.0 ∷ [] in
-    let fourth : List (List ℕ) = codes "count" ∷ last in let third : List (List ℕ) = decimal c.0 ∷ fourth in let second : List (List ℕ) = codes "height" ∷ third in
+row_said : (row : Row) (level count : ℕ) (ending : Ending) (bytes more : List ℕ) → RowAt row level ending → count ≡ 0 → Words row count ending bytes more → RowSaid Free row ending bytes more
+row_said r.Sorts level count ending bytes more at none ws = record { words = ws.words; is = sorts_free ws.words ws.each; text = ws.text }
+row_said r.Names level count ending bytes more at none ws = record { words = ws.words; is = names_free r.Names ws.words tt ws.each; text = ws.text }
+row_said (r.Args place) level count ending bytes more at none ws = absurd at
+row_said r.Values level count e.Bracket bytes more at none ws = absurd at
+row_said r.Values level count (e.Mark mark) bytes more at none ws = absurd at
+row_said r.Values level count e.Line bytes more at none ws =
+    let ts = terms_of r.Values ws.words refl ws.each in
     record {
-      said = spaced (decimal a.0 ∷ second);
-      line = record { line = l.PoolsSeed a.0 c.0 f.0; spelled = (a.1, c.1, f.1); begun = refl; form = λ version. refl; text = refl {a = line_spelling (l.PoolsSeed a.0 c.0 f.0)} };
-      more = f.2.more;
-      text = words_on (decimal a.0) second bytes a.2.more f.2.more a.2.text
-          (words_on (codes "height") third a.2.more b.more f.2.more b.text
-          (words_on (decimal c.0) fourth b.more c.2.more f.2.more c.2.text
-          (words_on (codes "count") last c.2.more d.more f.2.more d.text (words_on (decimal f.0) [] d.more f.2.more f.2.more f.2.text refl))));
-      left = f.2.left;
+      words = ws.words;
+      is = record { terms = ts.terms; each = values_free ts.terms ts.each; some = some_terms ts.terms ws.words ts.same (subst (λ n. nat_lt 0 (n + length ws.words) ≡ true) none ws.some); same = ts.same };
+      text = ws.text;
     }
 
-pools_back : (given : Bool) (rest : List Want) (x bytes : List ℕ) → bytes_eq x (codes "given") ≡ given → (given || bytes_eq x (codes "seed")) ≡ true → Given (pools_wants given ++ rest) bytes → Given (w.Pools ∷ rest) (x ++ bytes)
-pools_back true rest x bytes q h g =
-    (codes "given", record { line = l.PoolsGiven; spelled = tt; begun = refl; form = λ version. refl; text = refl }, bytes, ap (λ t. t ++ bytes) (same_bytes x (codes "given") q), g)
-pools_back false rest x bytes q h g =
-    let s = seed_given rest bytes g in
-    (codes "seed" ++ s.said, s.line, s.more, ap (λ t. t ++ bytes) (same_bytes x (codes "seed") h) ∙ ap (λ t. codes "seed" ++ t) s.text, s.left)
+pub said_free : (b : Bool) (wants : List Want) → Plain b wants → (bytes : List ℕ) → Given wants bytes → Said Free wants bytes
+said_free b [] is bytes g = g
+said_free b (w.Key stage ∷ rest) is bytes g = absurd is
+said_free b (w.Head ∷ rest) is bytes g = absurd is
+said_free b (w.Item row level count ending ∷ rest) is bytes g = absurd is
+said_free b (w.Pools ∷ rest) is bytes g = g
+said_free b (w.Gap ∷ rest) is bytes g = (g.0, g.1, said_free b rest is g.0 g.2)
+said_free b (w.Version ∷ rest) is bytes g = (g.0, g.1, g.2, g.3, said_free b rest is g.2 g.4)
+said_free b (w.Fixed mark ∷ rest) is bytes g = (g.0, g.1, said_free b rest is g.0 g.2)
+said_free b (w.Number ∷ rest) is bytes g = (g.0, g.1, g.2, g.3, said_free b rest is g.2 g.4)
+said_free b (w.Name ∷ rest) is bytes g = (g.0, g.1, g.2, g.3, said_free b rest is g.2 g.4)
+said_free b (w.Root place ending ∷ rest) is bytes g = (g.0, term_free place g.0 g.1, g.2, g.3, said_free b rest is.1 g.2 g.4)
+said_free b (w.Row row level count ending ∷ rest) is bytes g = (g.0, row_said row level count ending bytes g.0 is.0 is.1 g.1, said_free b rest is.3 g.0 g.2)
+
+pools_back : (given : Bool) (x bytes : List ℕ) → bytes_eq x (codes "given") ≡ given → (given || bytes_eq x (codes "seed")) ≡ true → Given (pools_wants given) bytes → PoolsLine Free (x ++ bytes)
+pools_back true x bytes q h g = pools_line Free true x bytes (same_bytes x (codes "given") q) g
+pools_back false x bytes q h g = pools_line Free false x bytes (same_bytes x (codes "seed") h) (said_free false seed_wants tt bytes g)
 
 -- what can always be given
 fit_letter : (row : Row) → Fit row (codes "A")
@@ -324,7 +314,7 @@ fill : (wants : List Want) → (bytes : List ℕ) × Given wants bytes
 fill [] = ([], refl)
 fill (w.Key stage ∷ rest) = ([], tt)
 fill (w.Version ∷ rest) = let f = fill rest in (codes "1" ++ f.0, (codes "1", refl, f.0, refl, f.1))
-fill (w.Pools ∷ rest) = let f = fill rest in (codes "given" ++ f.0, (codes "given", record { line = l.PoolsGiven; spelled = tt; begun = refl; form = λ version. refl; text = refl }, f.0, refl, f.1))
+fill (w.Pools ∷ rest) = (codes "given" ++ [], pools_line Free true (codes "given") [] refl refl)
 fill (w.Gap ∷ rest) = let f = fill rest in (32 ∷ f.0, (f.0, refl, f.1))
 fill (w.Fixed mark ∷ rest) = let f = fill rest in (mark_text mark ++ f.0, (f.0, refl, f.1))
 fill (w.Number ∷ rest) = let f = fill rest in (decimal 0 ++ f.0, (0, omega arith, f.0, refl, f.1))
@@ -339,7 +329,8 @@ fill (w.Item row level count ending ∷ rest) = let f = fill rest in (codes "A" 
 word_back : (n : ℕ) (want : Want) (rest : List Want) (x bytes : List ℕ) → Wanted Free n (want ∷ rest) → takes Free n want (word x) ≡ true → Given (moved n want rest (word x)).wants bytes → Given (want ∷ rest) (x ++ bytes)
 word_back n (w.Key stage) rest x bytes h t g = tt
 word_back n w.Version rest x bytes h t g = (x, t, bytes, refl, g)
-word_back n w.Pools rest x bytes h t g = pools_back (bytes_eq x (codes "given")) rest x bytes refl t g
+word_back n w.Pools rest x bytes h t g =
+    pools_back (bytes_eq x (codes "given")) x bytes refl t (subst (λ l. Given l bytes) (append-nil (pools_wants (bytes_eq x (codes "given")))) (subst (λ l. Given (pools_wants (bytes_eq x (codes "given")) ++ l) bytes) h g))
 word_back n (w.Fixed mark) rest x bytes h t g = (bytes, ap (λ t. t ++ bytes) (same_bytes x (mark_text mark) t), g)
 word_back n w.Number rest x bytes h t g = let q = number_by (number_below (2 ^ 63) x) x refl t in (q.0, q.1, bytes, ap (λ t. t ++ bytes) q.2, g)
 word_back n w.Name rest x bytes h t g = (x, t, bytes, refl, g)

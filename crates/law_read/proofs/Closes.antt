@@ -169,10 +169,6 @@ one_item : (bounds : Bounds) (n : ℕ) (row : Row) (level count : ℕ) (ending :
 one_item bounds n row level count ending rest may b g =
     item_closes bounds n row level count ending rest (row_mark ending rest ((m : ℕ) → Wanted bounds m rest) b) may (over_closes bounds (before_item row n + 1) row level count ending rest b g)
 
-or_else : (a b : Bool) → (a || b) ≡ true → a ≡ false → b ≡ true
-or_else true b h e = absurd cc
-or_else false b h e = h
-
 bracket_by : (bounds : Bounds) (t : Bool) (n : ℕ) (row : Row) (level count : ℕ) (rest : List Want) → nat_lt 0 count ≡ t → (t || may_come bounds n row level count) ≡ true → Behind e.Bracket rest ((m : ℕ) → Wanted bounds m rest) → Gives bounds rest
     → Closes bounds n (w.Row row level count e.Bracket ∷ rest)
 unfolding Gives

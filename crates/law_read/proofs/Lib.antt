@@ -26,6 +26,7 @@ pub mod LineSteps
 pub mod LineWords
 pub mod LinesFound
 pub mod Grown
+pub mod Said
 pub mod SomeFirst
 pub mod SegmentTexts
 pub mod Spaced

@@ -23,7 +23,7 @@ use Rattle.law_read.specs.Stages.{InOrder, IsOfVersion, allows, line_key, stage_
 use Rattle.law_read.specs.Walk.{State, end_fault, ends, is_mended, kind_at, kind_by, kind_in_order, line_fault, may_end, moved, number_fault, step, takes, takes_word, term_fault, walk, walk_in}
 use Rattle.law_read.specs.Faults.{is_closed_by, is_printed, is_spaced}
 use Rattle.law_read.specs.Places.{Begun, BegunTerm, FirstPlace, KindBy, LineKind, NumberFault, PieceKind, StopsThere, TermKind}
-use Rattle.law_read.proofs.Again.{and_true, apart_close, apart_space, gap_on, is_solid, taken_on}
+use Rattle.law_read.proofs.Again.{and_true, apart_close, apart_space, gap_on, is_solid, or_left, or_true, taken_on}
 use Rattle.law_read.proofs.AgainLines.{line_on, root_end}
 use Rattle.law_read.proofs.Begins.{IsPiece, Taken, piece_on}
 use Rattle.law_read.proofs.Closes.{Apart, StartsApart, Wanted, closes, piece_left}
@@ -233,13 +233,6 @@ either : (a b : Bool) → (a || b) ≡ true → (a ≡ true) ⊎ (b ≡ true)
 either true b h = inl refl
 either false b h = inr h
 
-or_front : (a b : Bool) → a ≡ true → (a || b) ≡ true
-or_front a b h = ap (λ t. t || b) h
-
-or_back : (a b : Bool) → b ≡ true → (a || b) ≡ true
-or_back true b h = refl
-or_back false b h = h
-
 -- a word whose number is at fault
 faulty : (Begins : Bounds → List Piece → Type 0) (front : List Piece) (n : ℕ) (want : Want) (rest : List Want) (bytes : List ℕ) → Next Begins front n (want ∷ rest) → is_mended n want bytes ≡ true → NumberFault Begins front (word bytes)
 unfolding is_solid
@@ -279,10 +272,10 @@ mended Begins front n want rest bytes x h = by h
     four = is_bad_behind 64 bytes && takes_word Free n want (codes "@0")
 
     by : NumberFault Begins front (word bytes) → (one || (two || (three || four))) ≡ true
-    by (inl h) = or_front one (two || (three || four)) (and_true _ _ (not_true (is_number bytes) h.0) (x.none (word (codes "0")) h.1))
-    by (inr (inl h)) = or_back one (two || (three || four)) (or_front two (three || four) (and_true _ _ h.0 (x.none (word (codes "A.0")) h.1)))
-    by (inr (inr (inl h))) = or_back one (two || (three || four)) (or_back two (three || four) (or_front three four (and_true _ _ h.0 (x.none (word (codes "#0")) h.1))))
-    by (inr (inr (inr h))) = or_back one (two || (three || four)) (or_back two (three || four) (or_back three four (and_true _ _ h.0 (x.none (word (codes "@0")) h.1))))
+    by (inl h) = or_left one (two || (three || four)) (and_true _ _ (not_true (is_number bytes) h.0) (x.none (word (codes "0")) h.1))
+    by (inr (inl h)) = or_true one (two || (three || four)) (or_left two (three || four) (and_true _ _ h.0 (x.none (word (codes "A.0")) h.1)))
+    by (inr (inr (inl h))) = or_true one (two || (three || four)) (or_true two (three || four) (or_left three four (and_true _ _ h.0 (x.none (word (codes "#0")) h.1))))
+    by (inr (inr (inr h))) = or_true one (two || (three || four)) (or_true two (three || four) (or_true three four (and_true _ _ h.0 (x.none (word (codes "@0")) h.1))))
 
 at_fault : (Begins : Bounds → List Piece → Type 0) (front : List Piece) (n : ℕ) (want : Want) (rest : List Want) (piece : Piece) → Next Begins front n (want ∷ rest) → number_fault n want piece ≡ true → NumberFault Begins front piece
 at_fault Begins front n want rest space x h = absurd cc

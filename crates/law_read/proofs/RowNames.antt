@@ -123,12 +123,6 @@ names_marked nodes row ending old one two new found k root e so goes marks =
       few = so.few;
     }
 
-pub names_stop : (nodes : ℕ) (row : Row) (ending : Ending) (old one : List ℕ) (found : List (List ℕ)) (k : ℕ) (stop : Stop)
-    → NamesSoFar nodes row ending old one found → k ≡ length found → ((rest : List Want) → Stops stop (walk nodes (w.Row row 0 k ending ∷ rest) (pieces one)))
-    → (rest : List Want) → Stops stop (walk 0 (w.Row row 0 0 ending ∷ rest) (pieces old))
-names_stop nodes row ending old one found k stop so e h rest =
-    stops_later stop _ _ (so.walked rest) (subst (λ n. Stops stop (walk nodes (w.Row row 0 n ending ∷ rest) (pieces one))) e (h rest))
-
 -- the words of a term that was put together
 pub term_is : (layer : RawTerm-F RawTerm) → term_spelling (roll-RawTerm layer) ≡ head_spelling layer.head ++ spaced (map arg_spelling layer.args)
 term_is layer = ap (λ l. head_spelling l.head ++ spaced (map arg_spelling l.args)) (out-roll-RawTerm layer)

@@ -199,9 +199,3 @@ row_kept nodes row level ending old one two new terms pushed mid term more k so 
   so_far = subst (λ l. RowSoFar nodes row level ending old new l more) (sym is)
       (row_more nodes row level ending old one two new terms mid term more so goes (subst (λ n. ItemRead mid row level n ending two new term more) e item));
 }
-
-pub row_stops : (nodes : ℕ) (row : Row) (level : ℕ) (ending : Ending) (old one : List ℕ) (terms : List RawTerm) (mid k : ℕ) (stop : Stop)
-    → RowSoFar nodes row level ending old one terms mid → k ≡ length terms → ((rest : List Want) → Stops stop (walk mid (w.Row row level k ending ∷ rest) (pieces one)))
-    → (rest : List Want) → Stops stop (walk nodes (w.Row row level 0 ending ∷ rest) (pieces old))
-row_stops nodes row level ending old one terms mid k stop so e h rest =
-    stops_later stop _ _ (so.walked rest) (subst (λ n. Stops stop (walk mid (w.Row row level n ending ∷ rest) (pieces one))) e (h rest))
