@@ -2,9 +2,10 @@
 //! of how a certificate is made.
 #![tactic(auto)]
 
+mod check;
+mod names;
 mod verdict;
-mod verify;
 
+pub use check::verify;
 pub use law_valid::Rule;
 pub use verdict::{CheckErr, Counts, Verdict};
-pub use verify::verify;
