@@ -1,1 +1,4 @@
 pub mod Verdicts
+pub mod Rows
+pub mod Progress
+pub mod Agendas

@@ -2,6 +2,8 @@
 //! of how a certificate is made.
 #![tactic(auto)]
 
+mod agenda;
+mod rows;
 mod verdict;
 mod verify;
 
