@@ -1,2 +1,5 @@
 pub mod Verdicts
 pub mod NameTables
+pub mod Rows
+pub mod Progress
+pub mod Agendas

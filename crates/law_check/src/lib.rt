@@ -4,6 +4,8 @@
 
 mod check;
 mod names;
+mod agenda;
+mod rows;
 mod verdict;
 
 pub use check::verify;
