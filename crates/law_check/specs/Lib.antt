@@ -3,3 +3,5 @@ pub mod NameTables
 pub mod Rows
 pub mod Progress
 pub mod Agendas
+pub mod Replaying
+pub mod Binds

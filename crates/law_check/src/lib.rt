@@ -6,6 +6,7 @@ mod check;
 mod names;
 mod agenda;
 mod rows;
+mod replay;
 mod verdict;
 
 pub use check::verify;
