@@ -3,3 +3,6 @@ pub mod RowFacts
 pub mod Replacing
 pub mod Binding
 pub mod Stepping
+pub mod StepFacts
+pub mod AnswerFacts
+pub mod WalkFacts

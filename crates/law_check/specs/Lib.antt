@@ -5,3 +5,4 @@ pub mod Progress
 pub mod Agendas
 pub mod Replaying
 pub mod Binds
+pub mod Steps

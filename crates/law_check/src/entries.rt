@@ -1,0 +1,362 @@
+ghost use Rattle.std.specs.Prelude.{◌≡◌, ◌↔◌, ◌+◌, length, IfOk, IsTrue};
+ghost use Rattle.law_value.specs.Values.{Grows};
+ghost use Rattle.law_test.specs.Values.{ArePools};
+ghost use Rattle.law_valid.specs.declared.certificate.Entry.TheVariants as e;
+ghost use Rattle.law_check.specs.Steps.{IsYes, HasSeen, HasPlace, IsAnswerTo, IsAnswerAtEnd, SeesMore, AnswersAll};
+
+use crate::agenda::Agenda;
+use crate::names::Names;
+use crate::rules::{is_killed, is_lemma, is_moved};
+use crate::terms::{Universe, schema};
+use crate::trees::judge_trees;
+use crate::values::agree;
+use law_cert::{Entry as Written, SortTree};
+use law_sig::{Equation, NoMemory, Seq, Sig, Tree};
+use law_test::{TermTable, Tester};
+use law_valid::{Answer, Entry, Rule, Step};
+use law_value::ValueBank;
+use std::alloc::Global;
+
+/// What the entries so far stated: equations by their numbers, spread schemas, live terms, and what is expected next.
+#[derive(Drop)]
+pub(crate) struct Seen {
+    known: Seq<Equation>,
+    spreads: Seq<Tree>,
+    lives: TermTable,
+    agenda: Agenda,
+}
+
+/// Whether nothing was found wrong.
+pub(crate) fn is_yes(answer: &Answer) -> bool
+    ensures { IsTrue result ↔ IsYes answer.now }
+{
+    match answer {
+        Answer::Yes => true,
+        _ => false,
+    }
+}
+
+/// Whether a law or a lemma has the next number.
+fn is_numbered(seen: &Seen, number: u64) -> bool
+    ensures { IsTrue result ↔ (number ≡ length seen.now.known + 1) }
+{
+    number > 0 && number - 1 == seen.known.len() as u64
+}
+
+/// What is found wrong with a law.
+fn of_law(
+    tester: &Tester,
+    universe: &Universe,
+    bank: &mut ValueBank,
+    seen: &Seen,
+    entry: u64,
+    number: u64,
+    q: &Equation,
+) -> Result<Answer, NoMemory>
+    requires pools { ArePools tester.now.sig.now bank.old tester.now.pools.now }
+    requires universe { universe.now ≡ tester.now.sig.now }
+    ensures answer { IfOk result (IsAnswerTo tester.now.sig.now seen.now entry (e.Law number q.now)) }
+    ensures grows { Grows bank.old bank.new }
+{
+    if !is_numbered(seen, number) {
+        return Ok(Answer::No(Rule::V3, entry));
+    }
+    if !universe.has_sides(q) {
+        return Ok(Answer::No(Rule::V3, entry));
+    }
+    agree(tester, bank, Rule::V3, entry, q)
+}
+
+/// What is found wrong with a lemma.
+fn of_lemma(
+    tester: &Tester,
+    seen: &Seen,
+    entry: u64,
+    number: u64,
+    q: &Equation,
+    steps: &[Step],
+) -> Result<Answer, NoMemory>
+    ensures { IfOk result (IsAnswerTo tester.now.sig.now seen.now entry (e.Lemma number q.now steps.now)) }
+{
+    if !is_numbered(seen, number) {
+        return Ok(Answer::No(Rule::V4, entry));
+    }
+    if !is_lemma(tester.alloc, tester.sig, seen.known.as_slice(), q, steps)? {
+        return Ok(Answer::No(Rule::V4, entry));
+    }
+    Ok(Answer::Yes)
+}
+
+/// What is found wrong with a spread schema.
+fn of_spread(tester: &Tester, seen: &Seen, entry: u64, schema: &Tree) -> Answer
+    ensures { IsAnswerTo tester.now.sig.now seen.now entry (e.Spread schema.now) result }
+{
+    if seen.agenda.awaits_term() {
+        return Answer::No(Rule::V7, entry);
+    }
+    if !seen.agenda.is_next_schema(schema) {
+        return Answer::No(Rule::V5, entry);
+    }
+    Answer::Yes
+}
+
+/// What is found wrong with a killed schema.
+fn of_killed(
+    tester: &Tester,
+    universe: &Universe,
+    bank: &mut ValueBank,
+    seen: &Seen,
+    entry: u64,
+    q: &Equation,
+    steps: &[Step],
+) -> Result<Answer, NoMemory>
+    requires pools { ArePools tester.now.sig.now bank.old tester.now.pools.now }
+    requires universe { universe.now ≡ tester.now.sig.now }
+    requires place { HasPlace tester.now.sig.now seen.now }
+    ensures answer { IfOk result (IsAnswerTo tester.now.sig.now seen.now entry (e.Killed q.now steps.now)) }
+    ensures grows { Grows bank.old bank.new }
+{
+    if seen.agenda.awaits_term() {
+        return Ok(Answer::No(Rule::V7, entry));
+    }
+    let killed = schema(tester.alloc, &q.left)?;
+    if !seen.agenda.is_next_schema(&killed) {
+        return Ok(Answer::No(Rule::V5, entry));
+    }
+    if !is_killed(tester.alloc, universe, seen.known.as_slice(), q, steps)? {
+        return Ok(Answer::No(Rule::V6, entry));
+    }
+    agree(tester, bank, Rule::V6, entry, q)
+}
+
+/// What is found wrong with a live term.
+fn of_live(tester: &Tester, seen: &Seen, entry: u64, term: &Tree) -> Answer
+    ensures { IsAnswerTo tester.now.sig.now seen.now entry (e.Live term.now) result }
+{
+    if !seen.agenda.awaits_term() {
+        return Answer::No(Rule::V5, entry);
+    }
+    if !seen.agenda.is_next_term(seen.lives.as_slice(), term) {
+        return Answer::No(Rule::V7, entry);
+    }
+    Answer::Yes
+}
+
+/// What is found wrong with a moved term.
+fn of_moved(
+    tester: &Tester,
+    bank: &mut ValueBank,
+    seen: &Seen,
+    entry: u64,
+    q: &Equation,
+    steps: &[Step],
+) -> Result<Answer, NoMemory>
+    requires pools { ArePools tester.now.sig.now bank.old tester.now.pools.now }
+    requires place { HasPlace tester.now.sig.now seen.now }
+    ensures answer { IfOk result (IsAnswerTo tester.now.sig.now seen.now entry (e.Moved q.now steps.now)) }
+    ensures grows { Grows bank.old bank.new }
+{
+    if !seen.agenda.awaits_term() {
+        return Ok(Answer::No(Rule::V5, entry));
+    }
+    if !seen.agenda.is_next_term(seen.lives.as_slice(), &q.left) {
+        return Ok(Answer::No(Rule::V7, entry));
+    }
+    let earlier = seen.lives.find(&q.right)?.is_some();
+    if !is_moved(tester.alloc, tester.sig, seen.known.as_slice(), earlier, q, steps)? {
+        return Ok(Answer::No(Rule::V7, entry));
+    }
+    agree(tester, bank, Rule::V7, entry, q)
+}
+
+/// What is found wrong with an entry, which has this number.
+fn of_entry(
+    tester: &Tester,
+    universe: &Universe,
+    bank: &mut ValueBank,
+    seen: &Seen,
+    number: u64,
+    entry: &Entry,
+) -> Result<Answer, NoMemory>
+    requires pools { ArePools tester.now.sig.now bank.old tester.now.pools.now }
+    requires universe { universe.now ≡ tester.now.sig.now }
+    requires place { HasPlace tester.now.sig.now seen.now }
+    ensures answer { IfOk result (IsAnswerTo tester.now.sig.now seen.now number entry.now) }
+    ensures grows { Grows bank.old bank.new }
+{
+    match entry {
+        Entry::Law(own, q) => of_law(tester, universe, bank, seen, number, *own, q),
+        Entry::Lemma(own, q, steps) => of_lemma(tester, seen, number, *own, q, steps.as_slice()),
+        Entry::Spread(schema) => Ok(of_spread(tester, seen, number, schema)),
+        Entry::Killed(q, steps) => {
+            of_killed(tester, universe, bank, seen, number, q, steps.as_slice())
+        }
+        Entry::Live(term) => Ok(of_live(tester, seen, number, term)),
+        Entry::Moved(q, steps) => of_moved(tester, bank, seen, number, q, steps.as_slice()),
+    }
+}
+
+/// Before the first entry.
+fn before_all(alloc: Global, sig: &Sig) -> Result<Seen, NoMemory>
+    ensures { IfOk result (λ seen. HasSeen sig.now [] None seen) }
+{
+    let mut known = Seq::new(alloc);
+    for q in sig.settings().background.as_slice() {
+        known.push(q.copy(alloc)?)?;
+    }
+    Ok(Seen {
+        known,
+        spreads: Seq::new(alloc),
+        lives: TermTable::new(alloc),
+        agenda: Agenda::new(alloc, sig)?,
+    })
+}
+
+/// After an equation with a number.
+fn with_equation(seen: Seen, q: Equation) -> Result<Seen, NoMemory>
+    ensures { IfOk result (λ new. new ≡ record seen { known = seen.known ++ q ∷ [] }) }
+{
+    let mut seen = seen;
+    seen.known.push(q)?;
+    Ok(seen)
+}
+
+fn with_spread(alloc: Global, sig: &Sig, seen: Seen, schema: Tree) -> Result<Seen, NoMemory>
+    ensures { IfOk result (λ new. SeesMore sig.now seen (e.Spread schema) new) }
+{
+    let Seen {
+        known,
+        mut spreads,
+        lives,
+        agenda,
+    } = seen;
+    let agenda = agenda.spread(alloc, sig)?;
+    spreads.push(schema)?;
+    Ok(Seen {
+        known,
+        spreads,
+        lives,
+        agenda,
+    })
+}
+
+fn with_killed(alloc: Global, sig: &Sig, seen: Seen, q: &Equation, steps: &[Step]) -> Result<Seen, NoMemory>
+    ensures { IfOk result (λ new. SeesMore sig.now seen (e.Killed q.now steps.now) new) }
+{
+    let Seen {
+        known,
+        spreads,
+        lives,
+        agenda,
+    } = seen;
+    let agenda = agenda.kill(alloc, sig)?;
+    Ok(Seen {
+        known,
+        spreads,
+        lives,
+        agenda,
+    })
+}
+
+fn with_live(alloc: Global, sig: &Sig, seen: Seen, term: Tree) -> Result<Seen, NoMemory>
+    ensures { IfOk result (λ new. SeesMore sig.now seen (e.Live term) new) }
+{
+    let Seen {
+        known,
+        spreads,
+        mut lives,
+        agenda,
+    } = seen;
+    let agenda = agenda.take_term(alloc, sig, true)?;
+    lives.push(term)?;
+    Ok(Seen {
+        known,
+        spreads,
+        lives,
+        agenda,
+    })
+}
+
+fn with_moved(alloc: Global, sig: &Sig, seen: Seen, q: &Equation, steps: &[Step]) -> Result<Seen, NoMemory>
+    ensures { IfOk result (λ new. SeesMore sig.now seen (e.Moved q.now steps.now) new) }
+{
+    let Seen {
+        known,
+        spreads,
+        lives,
+        agenda,
+    } = seen;
+    let agenda = agenda.take_term(alloc, sig, false)?;
+    Ok(Seen {
+        known,
+        spreads,
+        lives,
+        agenda,
+    })
+}
+
+/// After an entry of which nothing is wrong.
+fn with_entry(alloc: Global, sig: &Sig, seen: Seen, entry: Entry) -> Result<Seen, NoMemory>
+    ensures { IfOk result (λ new. SeesMore sig.now seen entry new) }
+{
+    match entry {
+        Entry::Law(_, q) => with_equation(seen, q),
+        Entry::Lemma(_, q, _) => with_equation(seen, q),
+        Entry::Spread(schema) => with_spread(alloc, sig, seen, schema),
+        Entry::Killed(q, steps) => with_killed(alloc, sig, seen, &q, steps.as_slice()),
+        Entry::Live(term) => with_live(alloc, sig, seen, term),
+        Entry::Moved(q, steps) => with_moved(alloc, sig, seen, &q, steps.as_slice()),
+    }
+}
+
+/// What is found wrong where the entries end, at the number after the last one.
+fn at_end(tester: &Tester, seen: &Seen, number: u64) -> Answer
+    ensures { IsAnswerAtEnd tester.now.sig.now seen.now number result }
+{
+    if seen.agenda.awaits_term() {
+        return Answer::No(Rule::V7, number);
+    }
+    if seen.agenda.awaits_schema() {
+        return Answer::No(Rule::V5, number);
+    }
+    Answer::Yes
+}
+
+/// What is found wrong first with the entries, and then with the trees.
+pub(crate) fn judge_entries(
+    tester: &Tester,
+    universe: &Universe,
+    names: &Names,
+    bank: &mut ValueBank,
+    entries: &[Written],
+    trees: &[SortTree],
+) -> Result<Answer, NoMemory>
+    requires pools { ArePools tester.now.sig.now bank.old tester.now.pools.now }
+    requires universe { universe.now ≡ tester.now.sig.now }
+    requires names { names.now ≡ tester.now.sig.now }
+    ensures { IfOk result (AnswersAll tester.now.sig.now entries.now trees.now) }
+{
+    let mut seen = before_all(tester.alloc, tester.sig)?;
+    for (at, written) in entries.iter().enumerate() {
+        let entry = names.entry(tester.alloc, written)?;
+        let answer = of_entry(tester, universe, bank, &seen, at as u64 + 1, &entry)?;
+        if !is_yes(&answer) {
+            return Ok(answer);
+        }
+        seen = with_entry(tester.alloc, tester.sig, seen, entry)?;
+    }
+    let number = entries.len() as u64 + 1;
+    let answer = at_end(tester, &seen, number);
+    if !is_yes(&answer) {
+        return Ok(answer);
+    }
+    judge_trees(
+        tester,
+        names,
+        bank,
+        seen.spreads.as_slice(),
+        seen.lives.as_slice(),
+        trees,
+        number,
+    )
+}
