@@ -2,6 +2,7 @@
 //! of how a certificate is made.
 #![tactic(auto)]
 
+mod values;
 mod verdict;
 mod verify;
 
