@@ -6,3 +6,5 @@ pub mod Stepping
 pub mod StepFacts
 pub mod AnswerFacts
 pub mod WalkFacts
+pub mod Goes
+pub mod Agreeing

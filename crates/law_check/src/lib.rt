@@ -7,6 +7,7 @@ mod names;
 mod agenda;
 mod rows;
 mod replay;
+mod values;
 mod verdict;
 
 pub use check::verify;
