@@ -1,3 +1,6 @@
 pub mod Replacing
 pub mod Binding
 pub mod Stepping
+pub mod Counted
+pub mod Comparing
+pub mod Bounds
