@@ -21,11 +21,11 @@ use Rattle.law_check.specs.Binds.{stands, stands_step, is_given, is_covered, cov
 
 -- Bools
 
-any_of : {A : Type 0} (f : A → Bool) (xs : List A) → list_any (λ b. b) (map f xs) ≡ list_any f xs
+pub any_of : {A : Type 0} (f : A → Bool) (xs : List A) → list_any (λ b. b) (map f xs) ≡ list_any f xs
 any_of f [] = refl
 any_of f (x ∷ xs) = ap (λ b. f x || b) (any_of f xs)
 
-all_of : {A : Type 0} (f : A → Bool) (xs : List A) → list_all (λ b. b) (map f xs) ≡ list_all f xs
+pub all_of : {A : Type 0} (f : A → Bool) (xs : List A) → list_all (λ b. b) (map f xs) ≡ list_all f xs
 all_of f [] = refl
 all_of f (x ∷ xs) = ap (λ b. f x && b) (all_of f xs)
 

@@ -8,3 +8,6 @@ pub mod AnswerFacts
 pub mod WalkFacts
 pub mod Goes
 pub mod Agreeing
+pub mod Counted
+pub mod Comparing
+pub mod Bounds

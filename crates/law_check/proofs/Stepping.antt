@@ -88,7 +88,7 @@ stepped_by parts equations step q s r binds place from to named are binds_is pla
 
 -- A chain
 
-dropped_at : {A : Type 0} (xs : List A) (i : ℕ) (x : A) → i < length xs → x ≡ slice_index_or xs i x → drop i xs ≡ x ∷ drop (i + 1) xs
+pub dropped_at : {A : Type 0} (xs : List A) (i : ℕ) (x : A) → i < length xs → x ≡ slice_index_or xs i x → drop i xs ≡ x ∷ drop (i + 1) xs
 dropped_at [] i x early is = absurd (omega arith)
 dropped_at (y ∷ xs) zero x early is = ap (λ z. z ∷ xs) (sym is)
 dropped_at (y ∷ xs) (suc i) x early is =

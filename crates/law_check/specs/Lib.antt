@@ -3,6 +3,8 @@ pub mod NameTables
 pub mod Rows
 pub mod Progress
 pub mod Agendas
+pub mod Marks
+pub mod Counting
 pub mod Replaying
 pub mod Binds
 pub mod Steps

@@ -8,6 +8,7 @@ mod agenda;
 mod rows;
 mod replay;
 mod values;
+mod terms;
 mod verdict;
 
 pub use check::verify;
