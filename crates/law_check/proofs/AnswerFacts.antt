@@ -34,7 +34,7 @@ spent_of parts lives None never = tt
 spent_of parts lives (Some block) never = λ t is above. never (λ spent. spent t is above)
 
 -- what an item that is found in a list says
-get_in : {A : Type 0} (xs : List A) (at : ℕ) (x : A) → slice_get xs at ≡ Some x → In x xs
+pub get_in : {A : Type 0} (xs : List A) (at : ℕ) (x : A) → slice_get xs at ≡ Some x → In x xs
 get_in [] at x h = none_is x h
 get_in (y ∷ xs) zero x h = subst (λ z. In z (y ∷ xs)) (some_is y x h) here
 get_in (y ∷ xs) (suc n) x h = there (get_in xs n x h)

@@ -11,3 +11,5 @@ pub mod Agreeing
 pub mod Counted
 pub mod Comparing
 pub mod Bounds
+mod SameLists
+pub mod CertFacts

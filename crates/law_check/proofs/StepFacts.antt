@@ -1,16 +1,18 @@
 -- What is asked of one entry, and then the rest; and what has been seen after it.
-use Rattle.std.proofs.Common.{◌≡◌, ◌↔◌, ℕ, zero, suc, ◌+◌, ◌⊎◌, inl, inr, IsTrue, Bool, true, false, true≢false, Option, Some, None, List, [], ◌∷◌, ◌++◌, length, refl, sym, ap, ◌∙◌, subst, append_assoc, append-nil, lt-ltb, arith}
-use Rattle.law_sig.specs.Lists.{In, Each}
+use Rattle.std.proofs.Common.{◌≡◌, ◌≢◌, ◌↔◌, ℕ, zero, suc, ◌+◌, ◌⊎◌, inl, inr, IsTrue, Bool, true, false, true≢false, Option, Some, None, List, [], ◌∷◌, ◌++◌, length, refl, sym, ap, ◌∙◌, subst, append_assoc, append-nil, lt-ltb, arith}
+use Rattle.law_sig.specs.Lists.{In, Each, Rising, AreDistinct}
 use Rattle.law_sig.specs.Trees.{schema_of}
 use Rattle.law_sig.specs.WellFormed.{vars_step}
 use Rattle.law_sig.specs.Tests.{InU, Pools, test_count, val}
+use Rattle.law_sig.specs.Order.{IsBefore}
 use Rattle.law_sig.specs.declared.tree.Tree.{Tree}
 use Rattle.law_sig.specs.declared.tree.Tree.TheVariants.{Var, App}
 use Rattle.law_sig.specs.declared.parts.Equation.{Equation}
 use Rattle.law_sig.specs.declared.parts.SigParts.{SigParts}
 use Rattle.law_laws.specs.Renaming.{has_vars}
 use Rattle.law_laws.proofs.TreeFacts.{fold-Var, fold-App}
-use Rattle.law_laws.proofs.ListFacts.{each_map, of_each}
+use Rattle.law_laws.proofs.ListFacts.{each_map, each_of, of_each}
+use Rattle.law_laws.proofs.Orders.{never_before_itself}
 use Rattle.law_laws.proofs.Sorts.{var_sorted}
 use Rattle.law_laws.proofs.Renaming.{all_true, bounded_vars}
 use Rattle.law_gen.specs.Draws.{pools_by}
@@ -26,7 +28,9 @@ use Rattle.law_valid.specs.Stated.{stated, equation_at, schema_at, spread_at, li
 use Rattle.law_valid.specs.Schemas.{IsConsidered}
 use Rattle.law_valid.specs.Schemas.IsConsidered.{variable, application}
 use Rattle.law_valid.specs.Judged.{If, Valued, Tests, AtTests, Background, Block, IsBlockSpent, IsNextTerm, AreSchemasSpent, HasSides, Entries, entry_after}
-use Rattle.law_valid.proofs.StatedFacts.{stated_parts, each_both}
+use Rattle.law_valid.specs.Expected.{IsAbove}
+use Rattle.law_valid.proofs.StatedFacts.{stated_parts, each_both, rising_both}
+use Rattle.law_valid.proofs.Blocks.{spread_schema}
 use Rattle.law_valid.proofs.Passing.{if_yes, never_no}
 use Rattle.law_check.specs.Progress.{Progress, after_spread, after_killed, after_term, IsSchemaNext, IsTermNext, IsTermSpent}
 use Rattle.law_check.specs.Agendas.{IsAt}
@@ -164,6 +168,12 @@ next_testable parts lives (Some block) t h = universe_testable parts h.is.sort t
 
 -- What has been seen after one more entry
 
+-- a schema that stands after all others is none of them
+distinct_more : (parts : SigParts) (before : List Entry) (c : Tree) → AreDistinct (stated spread_at before) → IsAbove (IsBefore parts) (stated schema_at before) c
+    → AreDistinct (stated spread_at before ++ c ∷ [])
+distinct_more parts before c distinct above = rising_both (λ x y. x ≢ y) (stated spread_at before) (c ∷ []) distinct (tt, tt) (each_of (λ d. Each (λ y. d ≢ y) (c ∷ [])) (stated spread_at before)
+    (λ d at. (λ same. never_before_itself parts c (subst (λ z. IsBefore parts z c) same (of_each (λ y. IsBefore parts y c) (spread_schema d before at) above)), tt)))
+
 pub law_more : (parts : SigParts) (seen new : Seen) (number : ℕ) (q : Equation) → new.known ≡ seen.known ++ q ∷ [] → new.spreads ≡ seen.spreads → new.lives ≡ seen.lives
     → new.agenda ≡ seen.agenda → SeesMore parts seen (e.Law number q) new
 law_more parts seen new number q k s l a before block has of =
@@ -173,6 +183,7 @@ law_more parts seen new number q k s l a before block has of =
       live = l ∙ has.live ∙ kept live_at before x refl;
       agenda = subst (λ g. IsAt g (progress parts (before ++ x ∷ []) block)) (sym a) (subst (IsAt seen.agenda)
           (same_place parts block _ _ _ _ _ _ (kept spread_at before x refl) (kept schema_at before x refl) (kept live_at before x refl)) has.agenda);
+      spread_distinct = subst AreDistinct (kept spread_at before x refl) has.spread_distinct;
       spread_testable = subst (Each (IsTestable parts)) (kept spread_at before x refl) has.spread_testable;
       live_testable = subst (Each (IsTestable parts)) (kept live_at before x refl) has.live_testable;
     }
@@ -186,6 +197,7 @@ lemma_more parts seen new number q steps k s l a before block has of =
       live = l ∙ has.live ∙ kept live_at before x refl;
       agenda = subst (λ g. IsAt g (progress parts (before ++ x ∷ []) block)) (sym a) (subst (IsAt seen.agenda)
           (same_place parts block _ _ _ _ _ _ (kept spread_at before x refl) (kept schema_at before x refl) (kept live_at before x refl)) has.agenda);
+      spread_distinct = subst AreDistinct (kept spread_at before x refl) has.spread_distinct;
       spread_testable = subst (Each (IsTestable parts)) (kept spread_at before x refl) has.spread_testable;
       live_testable = subst (Each (IsTestable parts)) (kept live_at before x refl) has.live_testable;
     }
@@ -202,6 +214,7 @@ spread_more parts seen new c k s l a before block has of =
       live = l ∙ has.live ∙ kept live_at before x refl;
       agenda = subst (IsAt new.agenda) (same_place parts (Some (record { schema = c; terms = [] })) _ _ _ _ _ _ (grown spread_at before x) (grown schema_at before x) (kept live_at before x refl))
           (a (progress parts before block) c has.agenda refl p.0 m.0);
+      spread_distinct = subst AreDistinct (grown spread_at before x) (distinct_more parts before c has.spread_distinct m.0.above);
       spread_testable = subst (Each (IsTestable parts)) (grown spread_at before x) (each_both (IsTestable parts) (stated spread_at before) (c ∷ []) has.spread_testable
           (considered_testable parts (stated spread_at before) c has.spread_testable m.0.is, tt));
       live_testable = subst (Each (IsTestable parts)) (kept live_at before x refl) has.live_testable;
@@ -219,6 +232,7 @@ killed_more parts seen new q steps k s l a before block has of =
       live = l ∙ has.live ∙ kept live_at before x refl;
       agenda = subst (IsAt new.agenda) (same_place parts None _ _ _ _ _ _ (kept spread_at before x refl) (grown schema_at before x) (kept live_at before x refl))
           (a (progress parts before block) (schema_of q.left) has.agenda refl p.0 m.0);
+      spread_distinct = subst AreDistinct (kept spread_at before x refl) has.spread_distinct;
       spread_testable = subst (Each (IsTestable parts)) (kept spread_at before x refl) has.spread_testable;
       live_testable = subst (Each (IsTestable parts)) (kept live_at before x refl) has.live_testable;
     }
@@ -235,6 +249,7 @@ live_more parts seen new t k s l a before block has of =
       live = l ∙ ap (λ l. l ++ t ∷ []) has.live ∙ grown live_at before x;
       agenda = subst (IsAt new.agenda) (same_place parts (block_after block x) _ _ _ _ _ _ (kept spread_at before x refl) (kept schema_at before x refl) (grown live_at before x))
           (a (progress parts before block) t has.agenda refl m.0);
+      spread_distinct = subst AreDistinct (kept spread_at before x refl) has.spread_distinct;
       spread_testable = subst (Each (IsTestable parts)) (kept spread_at before x refl) has.spread_testable;
       live_testable = subst (Each (IsTestable parts)) (grown live_at before x) (each_both (IsTestable parts) (stated live_at before) (t ∷ []) has.live_testable
           (next_testable parts (stated live_at before) block t m.0, tt));
@@ -252,6 +267,7 @@ moved_more parts seen new q steps k s l a before block has of =
       live = l ∙ has.live ∙ kept live_at before x refl;
       agenda = subst (IsAt new.agenda) (same_place parts (block_after block x) _ _ _ _ _ _ (kept spread_at before x refl) (kept schema_at before x refl) (kept live_at before x refl))
           (a (progress parts before block) q.left has.agenda refl m.0);
+      spread_distinct = subst AreDistinct (kept spread_at before x refl) has.spread_distinct;
       spread_testable = subst (Each (IsTestable parts)) (kept spread_at before x refl) has.spread_testable;
       live_testable = subst (Each (IsTestable parts)) (kept live_at before x refl) has.live_testable;
     }

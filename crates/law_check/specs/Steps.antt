@@ -1,6 +1,6 @@
 -- The order of checking entry by entry: what is asked of one by those before it, and what has been seen when its turn comes.
 use Rattle.std.specs.Prelude.{◌≡◌, ℕ, ◌+◌, List, [], ◌∷◌, ◌++◌, map, take, drop, Option, Some, None}
-use Rattle.law_sig.specs.Lists.{Each}
+use Rattle.law_sig.specs.Lists.{Each, AreDistinct}
 use Rattle.law_sig.specs.Trees.{schema_of}
 use Rattle.law_sig.specs.Tests.{Pools}
 use Rattle.law_sig.specs.declared.tree.Tree.{Tree}
@@ -71,12 +71,13 @@ abbrev pub progress : SigParts → List Entry → Option Block → Progress
 progress parts before block =
     record { parts = parts; spreads = stated spread_at before; schemas = stated schema_at before; lives = stated live_at before; block = block }
 
--- what has been seen is what these entries stated, and all its terms have values at tests
+-- what has been seen is what these entries stated; no schema is spread twice, and all terms have values at tests
 pub record HasSeen (parts : SigParts) (before : List Entry) (block : Option Block) (seen : Seen) : Type 0 where
   pub equations : seen.known ≡ known parts before
   pub spread : seen.spreads ≡ stated spread_at before
   pub live : seen.lives ≡ stated live_at before
   pub agenda : IsAt seen.agenda (progress parts before block)
+  pub spread_distinct : AreDistinct (stated spread_at before)
   pub spread_testable : Each (IsTestable parts) (stated spread_at before)
   pub live_testable : Each (IsTestable parts) (stated live_at before)
 

@@ -1,17 +1,20 @@
-ghost use Rattle.std.specs.Prelude.{◌≡◌, ◌↔◌, ◌+◌, length, IfOk, IsTrue};
+ghost use Rattle.std.specs.Prelude.{◌≡◌, ◌↔◌, [], ◌∷◌, ◌++◌, ◌+◌, length, map, None, IfOk, IsTrue};
+ghost use Rattle.std.specs.List.{AllByRecursion};
 ghost use Rattle.law_value.specs.Values.{Grows};
 ghost use Rattle.law_test.specs.Values.{ArePools};
+ghost use Rattle.law_cert.specs.Certificates.{IsTree};
+ghost use Rattle.law_valid.specs.Named.{sort_named};
 ghost use Rattle.law_valid.specs.declared.certificate.Entry.TheVariants as e;
-ghost use Rattle.law_check.specs.Steps.{IsYes, HasSeen, HasPlace, IsAnswerTo, IsAnswerAtEnd, SeesMore, AnswersAll};
+ghost use Rattle.law_check.specs.Steps.{HasSeen, HasPlace, IsAnswerTo, IsAnswerAtEnd, SeesMore, AnswersAll};
 
 use crate::agenda::Agenda;
 use crate::names::Names;
 use crate::rules::{is_killed, is_lemma, is_moved};
 use crate::terms::{Universe, schema};
 use crate::trees::judge_trees;
-use crate::values::agree;
+use crate::values::{agree, is_yes};
 use law_cert::{Entry as Written, SortTree};
-use law_sig::{Equation, NoMemory, Seq, Sig, Tree};
+use law_sig::{Equation, NoMemory, Seq, Sig, SortId, Tree};
 use law_test::{TermTable, Tester};
 use law_valid::{Answer, Entry, Rule, Step};
 use law_value::ValueBank;
@@ -24,16 +27,6 @@ pub(crate) struct Seen {
     spreads: Seq<Tree>,
     lives: TermTable,
     agenda: Agenda,
-}
-
-/// Whether nothing was found wrong.
-pub(crate) fn is_yes(answer: &Answer) -> bool
-    ensures { IsTrue result ↔ IsYes answer.now }
-{
-    match answer {
-        Answer::Yes => true,
-        _ => false,
-    }
 }
 
 /// Whether a law or a lemma has the next number.
@@ -196,19 +189,28 @@ fn of_entry(
     }
 }
 
+fn copy_equation(alloc: Global, q: &Equation) -> Result<Equation, NoMemory>
+    ensures { IfOk result (λ copy. copy ≡ q.now) }
+{
+    let left = q.left.copy(alloc)?;
+    let right = q.right.copy(alloc)?;
+    Ok(Equation { left, right })
+}
+
 /// Before the first entry.
 fn before_all(alloc: Global, sig: &Sig) -> Result<Seen, NoMemory>
     ensures { IfOk result (λ seen. HasSeen sig.now [] None seen) }
 {
     let mut known = Seq::new(alloc);
     for q in sig.settings().background.as_slice() {
-        known.push(q.copy(alloc)?)?;
+        known.push(copy_equation(alloc, q)?)?;
     }
+    let agenda = Agenda::new(alloc, sig)?;
     Ok(Seen {
         known,
         spreads: Seq::new(alloc),
         lives: TermTable::new(alloc),
-        agenda: Agenda::new(alloc, sig)?,
+        agenda,
     })
 }
 
@@ -322,6 +324,17 @@ fn at_end(tester: &Tester, seen: &Seen, number: u64) -> Answer
     Answer::Yes
 }
 
+/// The sorts of trees.
+fn tree_sorts(alloc: Global, names: &Names, trees: &[SortTree]) -> Result<Seq<SortId>, NoMemory>
+    ensures { IfOk result (λ sorts. sorts ≡ map (λ t. sort_named names.now t.sort) trees.now) }
+{
+    let mut sorts = Seq::new(alloc);
+    for tree in trees {
+        sorts.push(names.sort(&tree.sort))?;
+    }
+    Ok(sorts)
+}
+
 /// What is found wrong first with the entries, and then with the trees.
 pub(crate) fn judge_entries(
     tester: &Tester,
@@ -334,6 +347,7 @@ pub(crate) fn judge_entries(
     requires pools { ArePools tester.now.sig.now bank.old tester.now.pools.now }
     requires universe { universe.now ≡ tester.now.sig.now }
     requires names { names.now ≡ tester.now.sig.now }
+    requires trees { AllByRecursion IsTree trees.now }
     ensures { IfOk result (AnswersAll tester.now.sig.now entries.now trees.now) }
 {
     let mut seen = before_all(tester.alloc, tester.sig)?;
@@ -350,12 +364,13 @@ pub(crate) fn judge_entries(
     if !is_yes(&answer) {
         return Ok(answer);
     }
+    let sorts = tree_sorts(tester.alloc, names, trees)?;
     judge_trees(
         tester,
-        names,
         bank,
         seen.spreads.as_slice(),
         seen.lives.as_slice(),
+        sorts.as_slice(),
         trees,
         number,
     )

@@ -3,12 +3,17 @@
 #![tactic(auto)]
 
 mod check;
+mod counts;
 mod names;
 mod agenda;
 mod rows;
+mod pools;
 mod replay;
 mod values;
 mod terms;
+mod entries;
+mod rules;
+mod trees;
 mod verdict;
 
 pub use check::verify;
