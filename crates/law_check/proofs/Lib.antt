@@ -4,3 +4,4 @@ pub mod Stepping
 pub mod Counted
 pub mod Comparing
 pub mod Bounds
+pub mod Falling

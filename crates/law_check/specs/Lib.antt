@@ -3,3 +3,4 @@ pub mod Marks
 pub mod Counting
 pub mod Replaying
 pub mod Binds
+pub mod Rules

@@ -3,6 +3,7 @@
 #![tactic(auto)]
 
 mod replay;
+mod rules;
 mod terms;
 mod verdict;
 mod verify;
