@@ -1,5 +1,5 @@
 -- The tests of the terms for an equation's variables mean what is asked of them.
-use Rattle.std.proofs.Common.{◌≡◌, ℕ, zero, suc, ◌+◌, ◌-◌, ◌<◌, ◌≤◌, ◌⊎◌, inl, inr, ◌↔◌, List, [], ◌∷◌, ◌++◌, length, map, drop, Bool, true, false, true≢false, ◌&&◌, ◌||◌, ◌==◌, nat_lt, eqb-true, eq-eqb, ltb-true, lt-ltb, if◌then◌else◌, Option, Some, None, slice_get, slice_index_or, sym, refl, ap, ap₂, ◌∙◌, subst, arith}
+use Rattle.std.proofs.Common.{◌≡◌, ℕ, zero, suc, ◌+◌, ◌<◌, ◌≤◌, ◌⊎◌, inl, inr, ◌↔◌, List, [], ◌∷◌, ◌++◌, length, map, drop, Bool, true, false, true≢false, ◌&&◌, ◌||◌, ◌==◌, nat_lt, eqb-true, eq-eqb, ltb-true, lt-ltb, if◌then◌else◌, Option, Some, None, sym, refl, ap, ap₂, ◌∙◌, subst, arith}
 use Rattle.std.specs.List.{list_all, list_any}
 use Rattle.law_sig.specs.Lists.{In, Each, Rising}
 use Rattle.law_sig.specs.Lists.In.{here, there}
@@ -12,12 +12,12 @@ use Rattle.law_sig.specs.declared.tree.Tree.TheVariants.{Var, App}
 use Rattle.law_sig.specs.declared.parts.Equation.{Equation}
 use Rattle.law_sig.specs.declared.parts.SigParts.{SigParts}
 use Rattle.law_laws.proofs.TreeFacts.{tree_induct, fold-Var, fold-App, holes-Var, holes-App}
-use Rattle.law_laws.proofs.ListFacts.{each_of, of_each, in_left, in_right, in_split, in_map, in_none, in_rest}
+use Rattle.law_laws.proofs.ListFacts.{in_left, in_right, in_split, in_none, in_rest}
 use Rattle.law_laws.proofs.Sorts.{same_sort_is, same_sort_itself, both_true}
 use Rattle.law_laws.proofs.Universe.{either_true, right_true}
 use Rattle.law_valid.specs.declared.certificate.Bind.{Bind}
 use Rattle.law_valid.specs.Chains.{StandsBefore, AreBinds, is_bound}
-use Rattle.law_check.specs.Binds.{stands, stands_step, is_given, is_covered, covered_step, fits, is_earlier, rises, are_binds}
+use Rattle.law_check.specs.Binds.{stands, stands_step, is_given, is_covered, covered_step, fits, is_earlier, rises}
 
 -- Bools
 
@@ -146,7 +146,7 @@ pub covered_there : (binds : List Bind) (t : Tree) → Covered binds t
 covered_there binds = tree_induct (Covered binds)
     (λ s i. (
       λ e sort index at. hole_of binds s sort i index (given_there s i binds (sym (fold-Var Bool (covered_step binds) s i) ∙ e)) (same_sort s sort) refl
-      (subst (In index) (holes-Var sort s i) at),
+          (subst (In index) (holes-Var sort s i) at),
       λ covers. fold-Var Bool (covered_step binds) s i ∙ there_given s i binds (covers s i (own_hole s i)),
     ))
     (λ f args have. (
@@ -257,9 +257,10 @@ module _ (parts : SigParts) (q : Equation) where
 
   fit_sorted : (binds : List Bind) → Each (λ b. fits parts q b ≡ true) binds → Each (λ (b : Bind). sort_of parts b.term ≡ Some b.sort) binds
   fit_sorted [] h = tt
-  fit_sorted (b ∷ binds) h =
-      (has_sort_is (sort_of parts b.term) b.sort (both_true (has_sort (sort_of parts b.term) b.sort) (stands b.sort b.index q.left || stands b.sort b.index q.right) h.0).0,
-      fit_sorted binds h.1)
+  fit_sorted (b ∷ binds) h = (
+    has_sort_is (sort_of parts b.term) b.sort (both_true (has_sort (sort_of parts b.term) b.sort) (stands b.sort b.index q.left || stands b.sort b.index q.right) h.0).0,
+    fit_sorted binds h.1,
+  )
 
   fit_stand : (binds : List Bind) → Each (λ b. fits parts q b ≡ true) binds → (sort : SortId) (index : ℕ) → In {A = Key} (sort, index) (map key binds) → StandsIn sort index
   fit_stand [] h sort index at = in_none at
@@ -273,9 +274,10 @@ module _ (parts : SigParts) (q : Equation) where
   all_fits : (binds : List Bind) → Each (λ (b : Bind). sort_of parts b.term ≡ Some b.sort) binds
       → ((sort : SortId) (index : ℕ) → In {A = Key} (sort, index) (map key binds) → StandsIn sort index) → Each (λ b. fits parts q b ≡ true) binds
   all_fits [] sorted stand = tt
-  all_fits (b ∷ binds) sorted stand =
-      (ap₂ ◌&&◌ (is_has_sort (sort_of parts b.term) b.sort sorted.0) (in_stands b.sort b.index (stand b.sort b.index here)),
-      all_fits binds sorted.1 (λ sort index at. stand sort index (there at)))
+  all_fits (b ∷ binds) sorted stand = (
+    ap₂ ◌&&◌ (is_has_sort (sort_of parts b.term) b.sort sorted.0) (in_stands b.sort b.index (stand b.sort b.index here)),
+    all_fits binds sorted.1 (λ sort index at. stand sort index (there at)),
+  )
 
   pub passed_binds : (binds : List Bind) → list_all (fits parts q) binds ≡ true → rises binds ≡ true → is_covered binds q.left ≡ true → is_covered binds q.right ≡ true
       → AreBinds parts q binds

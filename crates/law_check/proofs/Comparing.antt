@@ -1,10 +1,9 @@
 -- The order K, by what is compared in turn.
-use Rattle.std.proofs.Common.{◌≡◌, ℕ, zero, suc, ◌+◌, ◌-◌, ◌<◌, ◌≤◌, ◌^◌, min, List, [], ◌∷◌, length, map, drop, Option, Some, None, slice_get, slice_index_or, Less, Equal, Greater, nat_cmp, sym, refl, ap, ap₂, ◌∙◌, subst, arith}
+use Rattle.std.proofs.Common.{◌≡◌, ℕ, zero, suc, ◌+◌, ◌-◌, ◌<◌, ◌≤◌, ◌^◌, min, List, [], ◌∷◌, length, map, drop, Some, None, slice_get, slice_index_or, Less, Greater, nat_cmp, sym, refl, ap, ap₂, ◌∙◌, arith}
 use Rattle.std.specs.declared.cmp.Ordering.{Ordering}
 use Rattle.std.specs.Ordering.{ordering_then}
 use Rattle.std.specs.Cmp.Lexicographic.{slice_cmp}
 use Rattle.law_sig.specs.Lists.{total}
-use Rattle.law_sig.specs.Signature.{weight_at}
 use Rattle.law_sig.specs.Tests.{weight}
 use Rattle.law_sig.specs.Order.{compare_k}
 use Rattle.law_sig.specs.declared.tree.SortId.{SortId}

@@ -1,18 +1,16 @@
 -- Lists that count up, and the variables of a term that do.
-use Rattle.std.proofs.Common.{◌≡◌, ℕ, zero, suc, ◌+◌, ◌<◌, ◌≤◌, ◌⊎◌, inl, inr, ◌↔◌, List, [], ◌∷◌, ◌++◌, length, map, drop, Bool, true, false, true≢false, ◌==◌, nat_lt, eqb-true, eq-eqb, ltb-true, lt-ltb, if◌then◌else◌, Option, Some, None, IsSome, IsTrue, slice_index_or, option_and_then, sym, refl, ap, ap₂, ◌∙◌, subst, arith}
+use Rattle.std.proofs.Common.{◌≡◌, ℕ, zero, suc, ◌+◌, ◌<◌, ◌≤◌, ◌⊎◌, inl, inr, List, [], ◌∷◌, ◌++◌, length, map, drop, Bool, true, false, true≢false, ◌==◌, nat_lt, eqb-true, eq-eqb, ltb-true, lt-ltb, if◌then◌else◌, Option, Some, None, IsSome, IsTrue, slice_index_or, option_and_then, sym, refl, ap, ap₂, ◌∙◌, subst, arith}
 use Rattle.law_sig.specs.Lists.{Each}
 use Rattle.law_sig.specs.Trees.{same_sort, joined, holes}
 use Rattle.law_sig.specs.Signature.{sort_of, is_declared_sort, args_of}
 use Rattle.law_sig.specs.Tests.{first_of}
 use Rattle.law_sig.specs.declared.tree.SortId.{SortId}
-use Rattle.law_sig.specs.declared.tree.SymId.{SymId}
 use Rattle.law_sig.specs.declared.tree.Tree.{Tree}
-use Rattle.law_sig.specs.declared.tree.Tree.TheVariants.{Var, App}
 use Rattle.law_sig.specs.declared.parts.SigParts.{SigParts}
 use Rattle.law_laws.specs.Filling.{IsNumbered}
 use Rattle.law_laws.proofs.TreeFacts.{tree_induct, holes-Var, holes-App}
 use Rattle.law_laws.proofs.Sorts.{HaveSorts, same_sort_is, sorted_var, sorted_app}
-use Rattle.law_laws.proofs.BodyFacts.{some_is, none_is}
+use Rattle.law_laws.proofs.BodyFacts.{none_is}
 use Rattle.law_check.specs.Counting.{counted_from}
 use Rattle.law_check.proofs.Stepping.{dropped_at}
 

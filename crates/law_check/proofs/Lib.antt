@@ -13,3 +13,4 @@ pub mod Comparing
 pub mod Bounds
 mod SameLists
 pub mod CertFacts
+pub mod Falling

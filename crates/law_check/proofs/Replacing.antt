@@ -1,8 +1,8 @@
 -- A replacement at a place, by what a walk down to the place finds.
-use Rattle.std.proofs.Common.{◌≡◌, ℕ, zero, suc, ◌+◌, ◌⊎◌, inl, inr, List, [], ◌∷◌, ◌++◌, length, take, drop, Option, Some, None, slice_get, sym, refl, ap, ap₂, ◌∙◌, subst, arith}
+use Rattle.std.proofs.Common.{◌≡◌, ℕ, zero, suc, ◌+◌, ◌⊎◌, inl, inr, List, [], ◌∷◌, ◌++◌, length, take, drop, Some, None, slice_get, sym, refl, ap, ap₂, ◌∙◌, subst, arith}
 use Rattle.law_sig.specs.declared.tree.SymId.{SymId}
 use Rattle.law_sig.specs.declared.tree.Tree.{Tree}
-use Rattle.law_sig.specs.declared.tree.Tree.TheVariants.{Var, App}
+use Rattle.law_sig.specs.declared.tree.Tree.TheVariants.{App}
 use Rattle.law_laws.proofs.TreeFacts.{same_app}
 use Rattle.law_valid.specs.Chains.{Rewrites}
 use Rattle.law_valid.specs.Chains.Rewrites.{root, below}
@@ -45,8 +45,16 @@ pub inverted : {from to : Tree} {place : List ℕ} {t u : Tree} → Rewrites fro
     → ((place ≡ []) × (t ≡ from) × (u ≡ to)) ⊎ Below from to place t u
 inverted root = inl (refl, refl, refl)
 inverted (below f before after place s t inner) = inr (record {
-  head = f; before = before; after = after; rest = place; old = s; new = t;
-  place_is = refl; term_is = refl; new_is = refl; inner = inner;
+  head = f;
+  before = before;
+  after = after;
+  rest = place;
+  old = s;
+  new = t;
+  place_is = refl;
+  term_is = refl;
+  new_is = refl;
+  inner = inner;
 })
 
 -- at the root

@@ -1,9 +1,8 @@
 -- One step leads to one term, and a chain goes on from there.
-use Rattle.std.proofs.Common.{◌≡◌, ℕ, zero, suc, ◌+◌, ◌<◌, ◌↔◌, ◌⊎◌, inl, inr, List, [], ◌∷◌, ◌++◌, length, drop, Bool, true, false, true≢false, IsTrue, Option, Some, None, slice_index_or, sym, refl, ap, ap₂, ◌∙◌, subst, arith}
+use Rattle.std.proofs.Common.{◌≡◌, ℕ, zero, suc, ◌+◌, ◌<◌, ◌↔◌, ◌⊎◌, inl, inr, List, [], ◌∷◌, ◌++◌, length, drop, Option, Some, None, slice_index_or, sym, refl, ap, ap₂, ◌∙◌, subst, arith}
 use Rattle.law_sig.specs.Trees.{substituted}
-use Rattle.law_sig.specs.declared.tree.SymId.{SymId}
 use Rattle.law_sig.specs.declared.tree.Tree.{Tree}
-use Rattle.law_sig.specs.declared.tree.Tree.TheVariants.{Var, App}
+use Rattle.law_sig.specs.declared.tree.Tree.TheVariants.{App}
 use Rattle.law_sig.specs.declared.parts.Equation.{Equation}
 use Rattle.law_sig.specs.declared.parts.SigParts.{SigParts}
 use Rattle.law_laws.proofs.TreeFacts.{same_app}
@@ -122,7 +121,7 @@ pub goes_on : (parts : SigParts) (equations : List Equation) (steps : List Step)
     → IsStep parts equations step s m → (u : Tree) → Replays parts equations (drop i steps) s u ↔ Replays parts equations (drop (i + 1) steps) m u
 goes_on parts equations steps i step s m early is one u = (
   λ h. (let p : First parts equations step (drop (i + 1) steps) s u = parted (subst (λ l. Replays parts equations l s u) (dropped_at steps i step early is) h) in
-  subst (λ t. Replays parts equations (drop (i + 1) steps) t u) (one_step parts equations step s p.mid m p.one one) p.rest),
+      subst (λ t. Replays parts equations (drop (i + 1) steps) t u) (one_step parts equations step s p.mid m p.one one) p.rest),
   λ h. subst (λ l. Replays parts equations l s u) (sym (dropped_at steps i step early is)) (next step (drop (i + 1) steps) s m u one h),
 )
 

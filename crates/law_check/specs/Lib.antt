@@ -8,3 +8,4 @@ pub mod Counting
 pub mod Replaying
 pub mod Binds
 pub mod Steps
+pub mod Rules

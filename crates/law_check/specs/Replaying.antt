@@ -1,6 +1,5 @@
 -- What a replacement and a step lead to, and what a variable stands for.
-use Rattle.std.specs.Prelude.{◌≡◌, ℕ, List, Option, Some, None}
-use Rattle.law_sig.specs.Lists.{In}
+use Rattle.std.specs.Prelude.{ℕ, List, Option, Some, None}
 use Rattle.law_sig.specs.declared.tree.Tree.{Tree}
 use Rattle.law_sig.specs.declared.parts.Equation.{Equation}
 use Rattle.law_sig.specs.declared.parts.SigParts.{SigParts}

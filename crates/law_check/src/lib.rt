@@ -10,6 +10,7 @@ mod rows;
 mod pools;
 mod replay;
 mod values;
+mod rules;
 mod terms;
 mod entries;
 mod rules;

@@ -1,4 +1,4 @@
-use Rattle.std.proofs.Common.{◌∷◌, ◌++◌, [], ◌+◌, take, drop, arith, rules, sym, ap, ◌∙◌, subst}
+use Rattle.std.proofs.Common.{◌∷◌, ◌++◌, [], ◌+◌, take, drop, rules, sym, ap, ◌∙◌, subst}
 use Rattle.law_sig.specs.Trees.{substituted}
 use Rattle.law_sig.specs.declared.tree.Tree.{Tree}
 use Rattle.law_valid.specs.Chains.{bound_in}

@@ -14,6 +14,6 @@ returns-then-not-is_covered c = (λ e. cc, λ are. sym (c.if-not-is_covered.true
 pub returns : goal.returns
 returns c = (
   λ e. passed_binds c.args.sig.now c.args.q.now c.args.binds.now (sym c.all_fit.ensures ∙ c.if-not-all_fit.false) (sym c.rises.ensures ∙ c.if-not-rises.false)
-  (sym c.is_covered.ensures ∙ c.if-not-is_covered.false) (sym c.is_covered-2.ensures ∙ e),
+      (sym c.is_covered.ensures ∙ c.if-not-is_covered.false) (sym c.is_covered-2.ensures ∙ e),
   λ are. c.is_covered-2.ensures ∙ (binds_pass c.args.sig.now c.args.q.now c.args.binds.now are).right,
 )

@@ -1,4 +1,4 @@
-use Rattle.std.proofs.Common.{sym, ap, ◌∙◌, arith, subst}
+use Rattle.std.proofs.Common.{arith, subst}
 use Rattle.law_check.specs.Replaying.{IsStepped}
 use Rattle.law_check.proofs.Stepping.{went_on, nowhere, arrived}
 use Rattle.law_check.proofs.replay.replays.Goals as goal
@@ -7,7 +7,7 @@ pub returns-in_default : goal.returns-in_default
 returns-in_default c = (
   λ e. cc,
   λ h. absurd (nowhere c.args.sig.now c.args.known.now c.args.steps.now c.args.from.now _ _ _ c.loop-next-test.true c.next-item.is
-    (subst (IsStepped c.args.sig.now c.args.known.now c.next-item.result c.loop-next.current) c.in_default.is c.in_ok-found.ensures) c.loop-next.invariant c.args.to.now h),
+      (subst (IsStepped c.args.sig.now c.args.known.now c.next-item.result c.loop-next.current) c.in_default.is c.in_ok-found.ensures) c.loop-next.invariant c.args.to.now h),
 )
 
 pub loop-next-preserved : goal.loop-next-preserved

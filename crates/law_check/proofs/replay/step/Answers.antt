@@ -1,5 +1,4 @@
-use Rattle.std.proofs.Common.{sym, ap, ◌∙◌, rules}
-use Rattle.std.specs.Option.{option_copied}
+use Rattle.std.proofs.Common.{rules}
 use Rattle.law_check.proofs.Stepping.{stepped_by}
 use Rattle.law_check.proofs.replay.step.Goals as goal
 

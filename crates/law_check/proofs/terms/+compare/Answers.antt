@@ -1,4 +1,4 @@
-use Rattle.std.proofs.Common.{◌≡◌, ◌<◌, ◌≤◌, length, Less, Equal, Greater, sym, ap, ap₂, ◌∙◌, rules, arith}
+use Rattle.std.proofs.Common.{◌≡◌, length, Less, Equal, Greater, sym, ap, ap₂, ◌∙◌, rules, arith}
 use Rattle.std.specs.Ordering.{ordering_then}
 use Rattle.std.specs.Cmp.Lexicographic.{slice_cmp}
 use Rattle.law_sig.specs.Order.{compare_k}
@@ -32,8 +32,10 @@ returns-in_default t c = sym (no_pair c.args.sig.now _ _ _ _ c.loop-at-test.true
 pub compare-requires : goal.compare-requires
 compare-requires t c = (
   search (rules, the_lemmas),
-  (item_light c.args.sig.now _ _ _ _ _ c.requires.left (c.in-App-App.is-0 ∙ ap (App _) (sym c.as_slice-arg-items.ensures)) c.loop-at-test.true c.arg-item.is,
-  other_light c.args.sig.now _ _ _ _ _ c.requires.right c.in-App-App.is-1 c.in-Some.ensures.value),
+  (
+    item_light c.args.sig.now _ _ _ _ _ c.requires.left (c.in-App-App.is-0 ∙ ap (App _) (sym c.as_slice-arg-items.ensures)) c.loop-at-test.true c.arg-item.is,
+    other_light c.args.sig.now _ _ _ _ _ c.requires.right c.in-App-App.is-1 c.in-Some.ensures.value,
+  ),
 )
 
 pub returns-in-Less-compare : goal.returns-in-Less-compare

@@ -1,4 +1,4 @@
-use Rattle.std.proofs.Common.{sym, ap, refl, ◌∙◌, arith}
+use Rattle.std.proofs.Common.{sym, refl, ◌∙◌, arith}
 use Rattle.law_check.proofs.Counted.{one_more_sort, at_numbered, all_numbered}
 use Rattle.law_check.proofs.terms.is_general.Goals as goal
 

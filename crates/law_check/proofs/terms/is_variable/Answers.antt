@@ -1,4 +1,4 @@
-use Rattle.std.proofs.Common.{ℕ, get_or, arith, nat_lt, false, refl, sym, ap, ◌≡◌, ◌∙◌}
+use Rattle.std.proofs.Common.{ℕ, get_or, arith, nat_lt, false, ap, ◌≡◌, ◌∙◌}
 use Rattle.std.specs.Option.{unwrap_or}
 use Rattle.std.proofs.lemmas.Option.{unwrap_or-slice_get}
 use Rattle.law_sig.specs.declared.parts.Settings.{Settings}
