@@ -17,9 +17,9 @@ use Rattle.law_valid.specs.declared.rule.Answer.{Answer}
 use Rattle.law_valid.specs.declared.rule.Answer.TheVariants.{Yes, No}
 use Rattle.law_valid.specs.declared.rule.Rule.TheVariants as r
 use Rattle.law_valid.specs.Stated.{stated, live_at, known}
-use Rattle.law_valid.specs.Valid.{IsLemma, IsKilled, IsMoved}
 use Rattle.law_valid.specs.Judged.{AtTests, Block, IsBlockSpent, AreSchemasSpent, HasSides, entry_after}
 use Rattle.law_check.specs.Progress.{Progress, IsSchemaNext, AreSpent, IsTermNext, IsTermSpent}
+use Rattle.law_check.specs.Rules.{TellsLemma, TellsKilled, TellsMoved}
 use Rattle.law_check.specs.Agendas.{IsAt}
 use Rattle.law_check.specs.declared.entries.Seen.{Seen}
 use Rattle.law_check.specs.Steps.{IsYes, progress, HasSeen, HasPlace, IsAnswerTo, IsAnswerAtEnd}
@@ -79,18 +79,15 @@ module _ (parts : SigParts) (seen : Seen) (number : ℕ) where
 
   -- Lemmas
 
-  abbrev pub TellsLemma : Equation → List Step → Bool → Type 0
-  TellsLemma q steps b = (before : List Entry) → seen.known ≡ known parts before → (IsTrue b ↔ IsLemma parts before q steps)
-
   pub lemma_misnumbered : (own : ℕ) (q : Equation) (steps : List Step) (b : Bool) → (IsTrue b ↔ (own ≡ length seen.known + 1)) → b ≡ false
       → IsAnswerTo parts seen number (e.Lemma own q steps) (No r.V4 number)
   lemma_misnumbered own q steps b exact off before block has at = inr ((λ p. never_of exact off (p.0 ∙ ap (λ l. length l + 1) (sym has.equations))), ap (No r.V4) at)
 
-  pub lemma_refused : (own : ℕ) (q : Equation) (steps : List Step) (b : Bool) → TellsLemma q steps b → b ≡ false
+  pub lemma_refused : (own : ℕ) (q : Equation) (steps : List Step) (b : Bool) → TellsLemma parts seen.known q steps b → b ≡ false
       → IsAnswerTo parts seen number (e.Lemma own q steps) (No r.V4 number)
   lemma_refused own q steps b tells off before block has at = inr ((λ p. never_of (tells before has.equations) off p.1), ap (No r.V4) at)
 
-  pub lemma_holds : (own : ℕ) (q : Equation) (steps : List Step) (b c : Bool) → (IsTrue b ↔ (own ≡ length seen.known + 1)) → b ≡ true → TellsLemma q steps c → c ≡ true
+  pub lemma_holds : (own : ℕ) (q : Equation) (steps : List Step) (b c : Bool) → (IsTrue b ↔ (own ≡ length seen.known + 1)) → b ≡ true → TellsLemma parts seen.known q steps c → c ≡ true
       → IsAnswerTo parts seen number (e.Lemma own q steps) Yes
   lemma_holds own q steps b c exact on tells holds before block has at =
       inl ((exact.0 on ∙ ap (λ l. length l + 1) has.equations, (tells before has.equations).0 holds), refl)
@@ -112,9 +109,6 @@ module _ (parts : SigParts) (seen : Seen) (number : ℕ) where
 
   -- Killed schemas
 
-  abbrev pub TellsKilled : Equation → List Step → Bool → Type 0
-  TellsKilled q steps b = (before : List Entry) → seen.known ≡ known parts before → (IsTrue b ↔ IsKilled parts before q steps)
-
   pub killed_early : (q : Equation) (steps : List Step) (b : Bool) → TellsAwaited b → b ≡ true → IsAnswerTo parts seen number (e.Killed q steps) (No r.V7 number)
   killed_early q steps b tells on before block has at = inr ((tells (progress parts before block) has.agenda).0 on, ap (No r.V7) at)
 
@@ -125,20 +119,20 @@ module _ (parts : SigParts) (seen : Seen) (number : ℕ) where
       inl (s, inr ((λ n. never_of (next (progress parts before block) has.agenda s) other (subst (IsSchemaNext (progress parts before block)) (sym same) n)), ap (No r.V5) at))
 
   pub killed_refused : (q : Equation) (steps : List Step) (c : Tree) (b d f : Bool) → c ≡ schema_of q.left → TellsAwaited b → b ≡ false → TellsSchema c d → d ≡ true
-      → TellsKilled q steps f → f ≡ false → IsAnswerTo parts seen number (e.Killed q steps) (No r.V6 number)
+      → TellsKilled parts seen.known q steps f → f ≡ false → IsAnswerTo parts seen number (e.Killed q steps) (No r.V6 number)
   killed_refused q steps c b d f same tells off next is killed refused before block has at =
       let s = spent before block has b tells off in
       inl (s, inl (subst (IsSchemaNext (progress parts before block)) same ((next (progress parts before block) has.agenda s).0 is),
       inr (never_of (killed before has.equations) refused, ap (No r.V6) at)))
 
   pub killed_agrees : (q : Equation) (steps : List Step) (c : Tree) (b d f : Bool) (a : Answer) → c ≡ schema_of q.left → TellsAwaited b → b ≡ false → TellsSchema c d
-      → d ≡ true → TellsKilled q steps f → f ≡ true → AtTests parts (pools_by parts) r.V6 number q IsYes a → IsAnswerTo parts seen number (e.Killed q steps) a
+      → d ≡ true → TellsKilled parts seen.known q steps f → f ≡ true → AtTests parts (pools_by parts) r.V6 number q IsYes a → IsAnswerTo parts seen number (e.Killed q steps) a
   killed_agrees q steps c b d f a same tells off next is killed holds tests before block has at =
       let s = spent before block has b tells off in
       inl (s, inl (subst (IsSchemaNext (progress parts before block)) same ((next (progress parts before block) has.agenda s).0 is),
       inl ((killed before has.equations).0 holds, subst (λ n. AtTests parts (pools_by parts) r.V6 n q IsYes a) at tests)))
 
-  pub killed_is : (q : Equation) (steps : List Step) (f : Bool) → HasPlace parts seen → TellsKilled q steps f → f ≡ true → IsTestable parts q.left × IsTestable parts q.right
+  pub killed_is : (q : Equation) (steps : List Step) (f : Bool) → HasPlace parts seen → TellsKilled parts seen.known q steps f → f ≡ true → IsTestable parts q.left × IsTestable parts q.right
   killed_is q steps f at killed holds =
       let k = (killed at.before at.has.equations).0 holds in
       (universe_testable parts k.sort q.left k.left, universe_testable parts k.sort q.right k.right)
@@ -158,8 +152,12 @@ module _ (parts : SigParts) (seen : Seen) (number : ℕ) where
 
   -- Moved terms
 
-  abbrev pub TellsMoved : Equation → List Step → Bool → Type 0
-  TellsMoved q steps b = (before : List Entry) → seen.known ≡ known parts before → seen.lives ≡ stated live_at before → (IsTrue b ↔ IsMoved parts before q steps)
+  -- whether its target is an earlier live term is known
+  abbrev pub IsEarlier : Equation → Bool → Type 0
+  IsEarlier q b = IsTrue b ↔ In q.right seen.lives
+
+  earlier_before : (before : List Entry) (block : Option Block) → HasSeen parts before block seen → (q : Equation) (b : Bool) → IsEarlier q b → (IsTrue b ↔ In q.right (stated live_at before))
+  earlier_before before block has q b exact = subst (λ l. IsTrue b ↔ In q.right l) has.live exact
 
   pub moved_late : (q : Equation) (steps : List Step) (b : Bool) → TellsAwaited b → b ≡ false → IsAnswerTo parts seen number (e.Moved q steps) (No r.V5 number)
   moved_late q steps b tells off before block has at = inr (never_of (tells (progress parts before block) has.agenda) off, ap (No r.V5) at)
@@ -169,23 +167,23 @@ module _ (parts : SigParts) (seen : Seen) (number : ℕ) where
   moved_other q steps b d tells on next other before block has at =
       inl ((tells (progress parts before block) has.agenda).0 on, inr (never_of (next (progress parts before block) has.agenda has.live) other, ap (No r.V7) at))
 
-  pub moved_refused : (q : Equation) (steps : List Step) (b d f : Bool) → TellsAwaited b → b ≡ true → TellsTerm q.left d → d ≡ true → TellsMoved q steps f → f ≡ false
+  pub moved_refused : (q : Equation) (steps : List Step) (b d g f : Bool) → TellsAwaited b → b ≡ true → TellsTerm q.left d → d ≡ true → IsEarlier q g → TellsMoved parts seen.known g q steps f → f ≡ false
       → IsAnswerTo parts seen number (e.Moved q steps) (No r.V7 number)
-  moved_refused q steps b d f tells on next is moved refused before block has at =
+  moved_refused q steps b d g f tells on next is earlier moved refused before block has at =
       inl ((tells (progress parts before block) has.agenda).0 on, inl ((next (progress parts before block) has.agenda has.live).0 is,
-      inr (never_of (moved before has.equations has.live) refused, ap (No r.V7) at)))
+      inr (never_of (moved before has.equations (earlier_before before block has q g earlier)) refused, ap (No r.V7) at)))
 
-  pub moved_agrees : (q : Equation) (steps : List Step) (b d f : Bool) (a : Answer) → TellsAwaited b → b ≡ true → TellsTerm q.left d → d ≡ true → TellsMoved q steps f
+  pub moved_agrees : (q : Equation) (steps : List Step) (b d g f : Bool) (a : Answer) → TellsAwaited b → b ≡ true → TellsTerm q.left d → d ≡ true → IsEarlier q g → TellsMoved parts seen.known g q steps f
       → f ≡ true → AtTests parts (pools_by parts) r.V7 number q IsYes a → IsAnswerTo parts seen number (e.Moved q steps) a
-  moved_agrees q steps b d f a tells on next is moved holds tests before block has at =
+  moved_agrees q steps b d g f a tells on next is earlier moved holds tests before block has at =
       inl ((tells (progress parts before block) has.agenda).0 on, inl ((next (progress parts before block) has.agenda has.live).0 is,
-      inl ((moved before has.equations has.live).0 holds, subst (λ n. AtTests parts (pools_by parts) r.V7 n q IsYes a) at tests)))
+      inl ((moved before has.equations (earlier_before before block has q g earlier)).0 holds, subst (λ n. AtTests parts (pools_by parts) r.V7 n q IsYes a) at tests)))
 
-  pub moved_is : (q : Equation) (steps : List Step) (d f : Bool) → HasPlace parts seen → TellsTerm q.left d → d ≡ true → TellsMoved q steps f → f ≡ true
+  pub moved_is : (q : Equation) (steps : List Step) (d g f : Bool) → HasPlace parts seen → TellsTerm q.left d → d ≡ true → IsEarlier q g → TellsMoved parts seen.known g q steps f → f ≡ true
       → IsTestable parts q.left × IsTestable parts q.right
-  moved_is q steps d f at next is moved holds = (
+  moved_is q steps d g f at next is earlier moved holds = (
     next_testable parts (stated live_at at.before) at.block q.left ((next (progress parts at.before at.block) at.has.agenda at.has.live).0 is),
-    of_each (IsTestable parts) ((moved at.before at.has.equations at.has.live).0 holds).earlier at.has.live_testable,
+    of_each (IsTestable parts) ((moved at.before at.has.equations (earlier_before at.before at.block at.has q g earlier)).0 holds).earlier at.has.live_testable,
   )
 
   -- The end of the entries

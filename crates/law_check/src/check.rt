@@ -44,14 +44,15 @@ fn judge_pools(
         return Ok(answer);
     }
     let universe = Universe::new(alloc, sig)?;
-    judge_entries(
+    let answer = judge_entries(
         &tester,
         &universe,
         &names,
         bank,
         cert.entries.as_slice(),
         cert.trees.as_slice(),
-    )
+    )?;
+    Ok(answer)
 }
 
 /// What is found wrong first with a certificate over the signature that its lines state.
@@ -64,7 +65,10 @@ fn judge(alloc: Global, sig: &Sig, cert: &Cert) -> Result<Answer, NoMemory>
     }
     let mut bank = ValueBank::new(alloc);
     match pools_of(alloc, sig, &mut bank) {
-        Ok(pools) => judge_pools(alloc, sig, cert, &mut bank, &pools),
+        Ok(pools) => {
+            let answer = judge_pools(alloc, sig, cert, &mut bank, &pools)?;
+            Ok(answer)
+        }
         Err(GenErr::ValueTooLarge { pool: _, sort: _ }) => Ok(Answer::No(Rule::V1, 0)),
         Err(GenErr::NoMemory) => Err(NoMemory),
     }

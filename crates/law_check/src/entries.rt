@@ -57,7 +57,8 @@ fn of_law(
     if !universe.has_sides(q) {
         return Ok(Answer::No(Rule::V3, entry));
     }
-    agree(tester, bank, Rule::V3, entry, q)
+    let answer = agree(tester, bank, Rule::V3, entry, q)?;
+    Ok(answer)
 }
 
 /// What is found wrong with a lemma.
@@ -119,7 +120,8 @@ fn of_killed(
     if !is_killed(tester.alloc, universe, seen.known.as_slice(), q, steps)? {
         return Ok(Answer::No(Rule::V6, entry));
     }
-    agree(tester, bank, Rule::V6, entry, q)
+    let answer = agree(tester, bank, Rule::V6, entry, q)?;
+    Ok(answer)
 }
 
 /// What is found wrong with a live term.
@@ -159,7 +161,8 @@ fn of_moved(
     if !is_moved(tester.alloc, tester.sig, seen.known.as_slice(), earlier, q, steps)? {
         return Ok(Answer::No(Rule::V7, entry));
     }
-    agree(tester, bank, Rule::V7, entry, q)
+    let answer = agree(tester, bank, Rule::V7, entry, q)?;
+    Ok(answer)
 }
 
 /// What is found wrong with an entry, which has this number.
@@ -302,8 +305,14 @@ fn with_entry(alloc: Global, sig: &Sig, seen: Seen, entry: Entry) -> Result<Seen
     ensures { IfOk result (λ new. SeesMore sig.now seen entry new) }
 {
     match entry {
-        Entry::Law(_, q) => with_equation(seen, q),
-        Entry::Lemma(_, q, _) => with_equation(seen, q),
+        Entry::Law(_, q) => {
+            let seen = with_equation(seen, q)?;
+            Ok(seen)
+        }
+        Entry::Lemma(_, q, _) => {
+            let seen = with_equation(seen, q)?;
+            Ok(seen)
+        }
         Entry::Spread(schema) => with_spread(alloc, sig, seen, schema),
         Entry::Killed(q, steps) => with_killed(alloc, sig, seen, &q, steps.as_slice()),
         Entry::Live(term) => with_live(alloc, sig, seen, term),
@@ -365,7 +374,7 @@ pub(crate) fn judge_entries(
         return Ok(answer);
     }
     let sorts = tree_sorts(tester.alloc, names, trees)?;
-    judge_trees(
+    let answer = judge_trees(
         tester,
         bank,
         seen.spreads.as_slice(),
@@ -373,5 +382,6 @@ pub(crate) fn judge_entries(
         sorts.as_slice(),
         trees,
         number,
-    )
+    )?;
+    Ok(answer)
 }

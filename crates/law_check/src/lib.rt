@@ -2,19 +2,18 @@
 //! of how a certificate is made.
 #![tactic(auto)]
 
+mod agenda;
 mod check;
 mod counts;
+mod entries;
 mod names;
-mod agenda;
-mod rows;
 mod pools;
 mod replay;
-mod values;
+mod rows;
 mod rules;
 mod terms;
-mod entries;
-mod rules;
 mod trees;
+mod values;
 mod verdict;
 
 pub use check::verify;
