@@ -77,6 +77,9 @@ module _ (parts : SigParts) (seen : Seen) (number : ℕ) where
     subst (λ n. AtTests parts (pools_by parts) r.V3 n q IsYes a) at tests,
   )
 
+  pub law_is : (q : Equation) (b : Bool) → (IsTrue b ↔ HasSides parts q) → b ≡ true → IsTestable parts q.left × IsTestable parts q.right
+  law_is q b exact on = let h = exact.0 on in (universe_testable parts h.sort q.left h.left, universe_testable parts h.sort q.right h.right)
+
   -- Lemmas
 
   pub lemma_misnumbered : (own : ℕ) (q : Equation) (steps : List Step) (b : Bool) → (IsTrue b ↔ (own ≡ length seen.known + 1)) → b ≡ false

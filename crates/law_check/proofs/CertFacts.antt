@@ -9,6 +9,7 @@ use Rattle.law_sig.specs.declared.tree.Tree.{Tree}
 use Rattle.law_sig.specs.declared.parts.SigParts.{SigParts}
 use Rattle.law_laws.proofs.ListFacts.{of_each}
 use Rattle.law_read.specs.declared.raw.RawTerm.{RawTerm}
+use Rattle.law_cert.specs.declared.cert.RawValues.{RawValues}
 use Rattle.law_cert.specs.declared.cert.Cert.{Cert}
 use Rattle.law_cert.specs.Certificates.{IsCertText}
 use Rattle.law_types.specs.Naming.{named_term}
@@ -64,6 +65,12 @@ module _ (parts : SigParts) (cert : Cert) where
   abbrev all_after : Pools → List SortTree → Answer → Type 0
   all_after pools trees =
       Entries parts pools (InTrees parts pools (entries_named parts cert.entries) (entry_after (entries_named parts cert.entries)) [] trees) [] None (entries_named parts cert.entries)
+
+  -- by the names of the signature, the lines of the certificate and the values
+  pub pools_exact : (names : SigParts) (raws : List (List RawValues)) (given values : Pools) (b : Bool) → names ≡ parts → raws ≡ cert.pools → given ≡ values
+      → (IsTrue b ↔ (pools_named names raws ≡ given)) → (IsTrue b ↔ (pools_named parts cert.pools ≡ values))
+  pools_exact names raws given values b n r g exact = subst (λ p. IsTrue b ↔ (pools_named p cert.pools ≡ values)) n
+      (subst (λ l. IsTrue b ↔ (pools_named names l ≡ values)) r (subst (λ v. IsTrue b ↔ (pools_named names raws ≡ v)) g exact))
 
   pub other_pools : (b : Bool) (values : Pools) → (IsTrue b ↔ (pools_named parts cert.pools ≡ values)) → b ≡ false → values ≡ pools_by parts
       → JudgedPools parts cert (answer.No r.V2 0)

@@ -75,20 +75,22 @@ fn of_lemma(
     if !is_numbered(seen, number) {
         return Ok(Answer::No(Rule::V4, entry));
     }
-    if !is_lemma(tester.alloc, tester.sig, seen.known.as_slice(), q, steps)? {
+    let known = seen.known.as_slice();
+    let holds = is_lemma(tester.alloc, tester.sig, known, q, steps)?;
+    if !holds {
         return Ok(Answer::No(Rule::V4, entry));
     }
     Ok(Answer::Yes)
 }
 
 /// What is found wrong with a spread schema.
-fn of_spread(tester: &Tester, seen: &Seen, entry: u64, schema: &Tree) -> Answer
-    ensures { IsAnswerTo tester.now.sig.now seen.now entry (e.Spread schema.now) result }
+fn of_spread(tester: &Tester, seen: &Seen, entry: u64, spread: &Tree) -> Answer
+    ensures { IsAnswerTo tester.now.sig.now seen.now entry (e.Spread spread.now) result }
 {
     if seen.agenda.awaits_term() {
         return Answer::No(Rule::V7, entry);
     }
-    if !seen.agenda.is_next_schema(schema) {
+    if !seen.agenda.is_next_schema(spread) {
         return Answer::No(Rule::V5, entry);
     }
     Answer::Yes
@@ -117,7 +119,9 @@ fn of_killed(
     if !seen.agenda.is_next_schema(&killed) {
         return Ok(Answer::No(Rule::V5, entry));
     }
-    if !is_killed(tester.alloc, universe, seen.known.as_slice(), q, steps)? {
+    let known = seen.known.as_slice();
+    let holds = is_killed(tester.alloc, universe, known, q, steps)?;
+    if !holds {
         return Ok(Answer::No(Rule::V6, entry));
     }
     let answer = agree(tester, bank, Rule::V6, entry, q)?;
@@ -131,7 +135,8 @@ fn of_live(tester: &Tester, seen: &Seen, entry: u64, term: &Tree) -> Answer
     if !seen.agenda.awaits_term() {
         return Answer::No(Rule::V5, entry);
     }
-    if !seen.agenda.is_next_term(seen.lives.as_slice(), term) {
+    let lives = seen.lives.as_slice();
+    if !seen.agenda.is_next_term(lives, term) {
         return Answer::No(Rule::V7, entry);
     }
     Answer::Yes
@@ -154,11 +159,15 @@ fn of_moved(
     if !seen.agenda.awaits_term() {
         return Ok(Answer::No(Rule::V5, entry));
     }
-    if !seen.agenda.is_next_term(seen.lives.as_slice(), &q.left) {
+    let lives = seen.lives.as_slice();
+    if !seen.agenda.is_next_term(lives, &q.left) {
         return Ok(Answer::No(Rule::V7, entry));
     }
-    let earlier = seen.lives.find(&q.right)?.is_some();
-    if !is_moved(tester.alloc, tester.sig, seen.known.as_slice(), earlier, q, steps)? {
+    let found = seen.lives.find(&q.right)?;
+    let earlier = found.is_some();
+    let known = seen.known.as_slice();
+    let holds = is_moved(tester.alloc, tester.sig, known, earlier, q, steps)?;
+    if !holds {
         return Ok(Answer::No(Rule::V7, entry));
     }
     let answer = agree(tester, bank, Rule::V7, entry, q)?;
@@ -235,13 +244,13 @@ fn with_spread(alloc: Global, sig: &Sig, seen: Seen, schema: Tree) -> Result<See
         lives,
         agenda,
     } = seen;
-    let agenda = agenda.spread(alloc, sig)?;
+    let next = agenda.spread(alloc, sig)?;
     spreads.push(schema)?;
     Ok(Seen {
         known,
         spreads,
         lives,
-        agenda,
+        agenda: next,
     })
 }
 
@@ -254,12 +263,12 @@ fn with_killed(alloc: Global, sig: &Sig, seen: Seen, q: &Equation, steps: &[Step
         lives,
         agenda,
     } = seen;
-    let agenda = agenda.kill(alloc, sig)?;
+    let next = agenda.kill(alloc, sig)?;
     Ok(Seen {
         known,
         spreads,
         lives,
-        agenda,
+        agenda: next,
     })
 }
 
@@ -272,13 +281,13 @@ fn with_live(alloc: Global, sig: &Sig, seen: Seen, term: Tree) -> Result<Seen, N
         mut lives,
         agenda,
     } = seen;
-    let agenda = agenda.take_term(alloc, sig, true)?;
+    let next = agenda.take_term(alloc, sig, true)?;
     lives.push(term)?;
     Ok(Seen {
         known,
         spreads,
         lives,
-        agenda,
+        agenda: next,
     })
 }
 
@@ -291,12 +300,12 @@ fn with_moved(alloc: Global, sig: &Sig, seen: Seen, q: &Equation, steps: &[Step]
         lives,
         agenda,
     } = seen;
-    let agenda = agenda.take_term(alloc, sig, false)?;
+    let next = agenda.take_term(alloc, sig, false)?;
     Ok(Seen {
         known,
         spreads,
         lives,
-        agenda,
+        agenda: next,
     })
 }
 
@@ -305,11 +314,11 @@ fn with_entry(alloc: Global, sig: &Sig, seen: Seen, entry: Entry) -> Result<Seen
     ensures { IfOk result (λ new. SeesMore sig.now seen entry new) }
 {
     match entry {
-        Entry::Law(_, q) => {
+        Entry::Law(_number, q) => {
             let seen = with_equation(seen, q)?;
             Ok(seen)
         }
-        Entry::Lemma(_, q, _) => {
+        Entry::Lemma(_number, q, _steps) => {
             let seen = with_equation(seen, q)?;
             Ok(seen)
         }
@@ -362,16 +371,17 @@ pub(crate) fn judge_entries(
     let mut seen = before_all(tester.alloc, tester.sig)?;
     for (at, written) in entries.iter().enumerate() {
         let entry = names.entry(tester.alloc, written)?;
-        let answer = of_entry(tester, universe, bank, &seen, at as u64 + 1, &entry)?;
+        let number = at as u64 + 1;
+        let answer = of_entry(tester, universe, bank, &seen, number, &entry)?;
         if !is_yes(&answer) {
             return Ok(answer);
         }
         seen = with_entry(tester.alloc, tester.sig, seen, entry)?;
     }
     let number = entries.len() as u64 + 1;
-    let answer = at_end(tester, &seen, number);
-    if !is_yes(&answer) {
-        return Ok(answer);
+    let end = at_end(tester, &seen, number);
+    if !is_yes(&end) {
+        return Ok(end);
     }
     let sorts = tree_sorts(tester.alloc, names, trees)?;
     let answer = judge_trees(

@@ -6,12 +6,15 @@ mod agenda;
 mod check;
 mod counts;
 mod entries;
+mod judge;
 mod names;
 mod pools;
 mod replay;
 mod rows;
 mod rules;
 mod terms;
+#[cfg(test)]
+mod tests;
 mod trees;
 mod values;
 mod verdict;
