@@ -1,7 +1,9 @@
 -- What is said of a whole certificate.
-use Rattle.std.proofs.Common.{◌≡◌, ◌↔◌, ℕ, zero, suc, ◌≤◌, ◌⊎◌, inl, inr, IsTrue, Bool, true, false, true≢false, Option, Some, None, is_some, slice_get, List, [], ◌∷◌, length, refl, sym, ap, ◌∙◌, subst, arith}
+use Rattle.std.proofs.Common.{◌≡◌, ◌↔◌, ℕ, zero, suc, ◌≤◌, ◌⊎◌, inl, inr, IsTrue, Bool, true, false, true≢false, Option, Some, None, is_some, slice_get, List, [], ◌∷◌, length, refl, sym, ap, ◌∙◌, subst, arith, rules, nat_lt, if◌then◌else◌}
 use Rattle.law_sig.specs.Lists.{In, Each}
+use Rattle.law_sig.specs.Trees.{node_count}
 use Rattle.law_sig.specs.Counts.{at_most}
+use Rattle.law_sig.proofs.TermCounts.{some_within}
 use Rattle.law_sig.specs.WellFormed.{IsWellFormed}
 use Rattle.law_sig.specs.Tests.{Pools, assignments}
 use Rattle.law_sig.specs.declared.tree.SortId.{SortId}
@@ -36,13 +38,14 @@ use Rattle.law_check.proofs.AnswerFacts.{get_in}
 -- Limits
 
 pub too_many : (n : ℕ) (o : Option ℕ) → o ≡ at_most 4096 n → is_some o ≡ false → n ≤ 4096 → ⊥
-too_many n o is none few = absurd (true≢false (sym (ap is_some is ∙ within n few) ∙ none))
-  where
-    within : (n : ℕ) → n ≤ 4096 → is_some (at_most 4096 n) ≡ true
-    within n few = search rules
+too_many n o is none few = true≢false (sym (ap is_some (is ∙ sym (some_within 4096 n n refl few))) ∙ none)
 
 pub few_enough : (n : ℕ) (o : Option ℕ) → o ≡ at_most 4096 n → is_some o ≡ true → n ≤ 4096
-few_enough n o is some = search rules
+few_enough n o is some = by (nat_lt 4096 n) refl (ap is_some (sym is) ∙ some)
+  where
+    by : (b : Bool) → nat_lt 4096 n ≡ b → is_some (if b then None else Some n) ≡ true → n ≤ 4096
+    by true k h = absurd (true≢false (sym h))
+    by false k h = search rules
 
 module _ (parts : SigParts) (cert : Cert) where
   pub over_limits : (IsWithinLimits parts → ⊥) → JudgedOver parts cert (answer.No r.V1 0)
@@ -53,7 +56,7 @@ module _ (parts : SigParts) (cert : Cert) where
       let sorts = of_each (Each AreSmall) (get_in (pools_by parts) pool first.sorts first.there) w.small_values in
       let values = of_each AreSmall (get_in first.sorts sort.0 first.first.values first.first.there) sorts in
       let large = first.first.large in
-      let small = of_each _ large.1 values in
+      let small = of_each (λ v. node_count v ≤ 4096) large.1 values in
       let more = large.2 in
       absurd (omega (arith, small, more))
 
@@ -86,11 +89,11 @@ module _ (parts : SigParts) (cert : Cert) where
 
     pub all_answered : (a b : Answer) → Background parts (pools_by parts) parts.settings.background IsYes a → a ≡ answer.Yes → AnswersAll parts cert.entries cert.trees b
         → JudgedPools parts cert b
-    all_answered a b h yes all trees are = inl (
+    all_answered a b h good all trees are = inl (
       same,
       subst (λ ps. Background parts ps parts.settings.background (all_after ps trees) b) (sym same)
           (background_on parts (pools_by parts) IsYes (all_after (pools_by parts) trees) b (λ y. all trees are) parts.settings.background
-          (subst (Background parts (pools_by parts) parts.settings.background IsYes) yes h)),
+          (subst (Background parts (pools_by parts) parts.settings.background IsYes) good h)),
     )
 
 -- Verdicts
@@ -104,8 +107,8 @@ module _ (spelled : SpelledMeans) (cert : Cert) (parts : SigParts) (text : IsCer
 
   pub yes_told : (exact : CertYesIsValid) (covers : CertCovers) (counts : Counts) → a ≡ answer.Yes → counts ≡ counted cert.entries
       → IsVerdict cert (v.Yes counts) × IsExact cert (v.Yes counts) × IsCovering cert (v.Yes counts)
-  yes_told exact covers counts yes are =
-      let j = subst (JudgedCert cert) yes cert_judged in
+  yes_told exact covers counts good are =
+      let j = subst (JudgedCert cert) good cert_judged in
       let valid = (exact cert).0 j in
       ((j, are), valid, record { means = valid.means; covered = covers cert valid })
 
@@ -120,9 +123,9 @@ module _ (spelled : SpelledMeans) (cert : Cert) (parts : SigParts) (text : IsCer
 
   pub no_told : (exact : CertYesIsValid) (one : OneCertAnswer) (rule : Rule) (entry : ℕ) → a ≡ answer.No rule entry
       → IsVerdict cert (v.No rule entry) × IsExact cert (v.No rule entry)
-  no_told exact one rule entry no = (
-    subst (JudgedCert cert) no cert_judged,
-    never_valid exact one (λ yes. no_yes rule entry (sym no ∙ yes)),
+  no_told exact one rule entry bad = (
+    subst (JudgedCert cert) bad cert_judged,
+    never_valid exact one (λ good. no_yes rule entry (sym bad ∙ good)),
   )
 
   pub over_told : (exact : CertYesIsValid) (one : OneCertAnswer) (entry test : ℕ) (term : Tree) (raw : RawTerm) → a ≡ answer.Over entry test term → raw ≡ named_term parts term
@@ -132,7 +135,7 @@ module _ (spelled : SpelledMeans) (cert : Cert) (parts : SigParts) (text : IsCer
         term,
         record { means = m.0; judged = subst (Judged m.0.parts (pools_named m.0.parts cert.pools) (entries_named m.0.parts cert.entries) m.0.trees) over (judged_there m.0 m.1) },
         named ∙ ap (λ p. named_term p term) (sym m.1),
-        never_valid exact one (λ yes. over_yes entry test term (sym over ∙ yes)),
+        never_valid exact one (λ good. over_yes entry test term (sym over ∙ good)),
       )
 
 pub untyped_no : (cert : Cert) → StatesNone cert.sig → IsVerdict cert (v.No r.V1 0) × IsExact cert (v.No r.V1 0)

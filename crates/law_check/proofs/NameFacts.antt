@@ -120,14 +120,14 @@ pub entered : {K X S : Type 0} (eq : K → K → Bool) (m : IndexMap K X S) (k :
     → new ≡ insert_entry eq m.entries k v → new ≡ m.entries ++ (k, v) ∷ []
 entered eq m k v new none is = is ∙ insert_entry-new eq m k v none
 
-taken : {A : Type 0} (xs : List A) (at : ℕ) (x : A) → slice_get xs at ≡ Some x → take (at + 1) xs ≡ take at xs ++ x ∷ []
+pub taken : {A : Type 0} (xs : List A) (at : ℕ) (x : A) → slice_get xs at ≡ Some x → take (at + 1) xs ≡ take at xs ++ x ∷ []
 taken [] at x h = none_is x h
 taken (y ∷ xs) zero x h = ap (λ w. w ∷ []) (some_is y x h)
 taken (y ∷ xs) (suc n) x h =
     let next : suc n + 1 ≡ suc (n + 1) = omega arith in
     ap (λ k. take k (y ∷ xs)) next ∙ ap (λ l. y ∷ l) (taken xs n x h)
 
-long : {A : Type 0} (xs : List A) (at : ℕ) (x : A) → slice_get xs at ≡ Some x → at ≡ length (take at xs)
+pub long : {A : Type 0} (xs : List A) (at : ℕ) (x : A) → slice_get xs at ≡ Some x → at ≡ length (take at xs)
 long [] at x h = none_is x h
 long (y ∷ xs) zero x h = refl
 long (y ∷ xs) (suc n) x h = let h = long xs n x h in omega arith

@@ -138,7 +138,7 @@ known_grown parts before x = append_assoc parts.settings.background (stated equa
 known_kept : (parts : SigParts) (before : List Entry) (x : Entry) → equation_at x ≡ [] → known parts before ≡ known parts (before ++ x ∷ [])
 known_kept parts before x none = ap (λ l. parts.settings.background ++ l) (kept equation_at before x none)
 
-place : SigParts → Option Block → List Tree → List Tree → List Tree → Progress
+abbrev place : SigParts → Option Block → List Tree → List Tree → List Tree → Progress
 place parts block spreads schemas lives = record { parts = parts; spreads = spreads; schemas = schemas; lives = lives; block = block }
 
 same_place : (parts : SigParts) (block : Option Block) (a b c x y z : List Tree) → a ≡ x → b ≡ y → c ≡ z → place parts block a b c ≡ place parts block x y z

@@ -1,7 +1,7 @@
 -- The walk over all entries, and the trees behind it.
 use Rattle.std.proofs.Common.{◌≡◌, ℕ, zero, suc, ◌+◌, ◌≤◌, Some, None, slice_get, List, [], ◌∷◌, ◌++◌, length, map, take, drop, refl, sym, ap, ◌∙◌, subst, arith}
 use Rattle.std.proofs.lemmas.List.{length-map, take_all}
-use Rattle.law_sig.specs.Lists.{Each}
+use Rattle.law_sig.specs.Lists.{Each, AreDistinct}
 use Rattle.law_sig.specs.Tests.{Pools}
 use Rattle.law_sig.specs.declared.tree.Tree.{Tree}
 use Rattle.law_sig.specs.declared.parts.SigParts.{SigParts}
@@ -10,6 +10,7 @@ use Rattle.law_laws.proofs.BodyFacts.{some_is, none_is}
 use Rattle.law_cert.specs.declared.cert.Entry.{Entry as Written}
 use Rattle.law_cert.specs.declared.cert.SortTree.{SortTree as WrittenTree}
 use Rattle.law_gen.specs.Draws.{pools_by}
+use Rattle.law_test.specs.Values.{IsTestable}
 use Rattle.law_valid.specs.declared.certificate.Entry.{Entry}
 use Rattle.law_valid.specs.declared.certificate.SortTree.{SortTree}
 use Rattle.law_valid.specs.declared.rule.Answer.{Answer}
@@ -42,6 +43,13 @@ module _ (parts : SigParts) (raws : List Written) where
   pub walked_place : (at : ℕ) (seen : Seen) → HasWalked parts raws at seen → HasPlace parts seen
   walked_place at seen w = record { before = entries_named parts (take at raws); block = w.block; has = w.has }
 
+  pub walked_terms : (at : ℕ) (seen : Seen) → HasWalked parts raws at seen → Each (IsTestable parts) seen.spreads × Each (IsTestable parts) seen.lives × AreDistinct seen.spreads
+  walked_terms at seen w = (
+    subst (Each (IsTestable parts)) (sym w.has.spread) w.has.spread_testable,
+    subst (Each (IsTestable parts)) (sym w.has.live) w.has.live_testable,
+    subst AreDistinct (sym w.has.spread) w.has.spread_distinct,
+  )
+
   abbrev close : List SortTree → Answer → Type 0
   close trees = InTrees parts (pools_by parts) (entries_named parts raws) (entry_after (entries_named parts raws)) [] trees
 
@@ -50,37 +58,31 @@ module _ (parts : SigParts) (raws : List Written) where
 
   module _ (at : ℕ) (raw : Written) (there : slice_get raws at ≡ Some raw) (seen : Seen) (w : HasWalked parts raws at seen) (a : Answer)
       (answer : IsAnswerTo parts seen (at + 1) (entry_named parts raw) a) where
-    -- so many entries, the next one, and those behind it
-    before : List Entry
-    before = entries_named parts (take at raws)
-
-    x : Entry
-    x = entry_named parts raw
-
-    xs : List Entry
-    xs = entries_named parts (drop (at + 1) raws)
-
     of : OfEntry parts (pools_by parts) (entries_named parts (take at raws)) w.block (entry_named parts raw) IsYes a
     of = answer (entries_named parts (take at raws)) w.block w.has (number_is at raw there)
 
-    from_here : (trees : List SortTree) (b : Answer) → OfEntry parts (pools_by parts) (entries_named parts (take at raws)) w.block (entry_named parts raw)
-            (Entries parts (pools_by parts) (close trees) (entries_named parts (take at raws) ++ entry_named parts raw ∷ []) (block_after w.block (entry_named parts raw)) (entries_named parts (drop (at + 1) raws))) b
+    -- what the entries behind this one say
+    abbrev behind : List SortTree → Answer → Type 0
+    behind trees = Entries parts (pools_by parts) (close trees) (entries_named parts (take at raws) ++ entry_named parts raw ∷ []) (block_after w.block (entry_named parts raw))
+        (entries_named parts (drop (at + 1) raws))
+
+    from_here : (trees : List SortTree) (b : Answer) → OfEntry parts (pools_by parts) (entries_named parts (take at raws)) w.block (entry_named parts raw) (behind trees) b
         → EntriesFrom parts raws trees [] None (entries_named parts raws) b
     from_here trees b h = w.on trees b (subst (λ l. EntriesFrom parts raws trees (entries_named parts (take at raws)) w.block l b) (sym (ap (entries_named parts) (dropped raws at raw there)))
         (to_entries parts (pools_by parts) (close trees) (entries_named parts (take at raws)) w.block (entry_named parts raw) (entries_named parts (drop (at + 1) raws)) b h))
 
     pub walked_fault : (lines : List WrittenTree) → (a ≡ Yes → ⊥) → AnswersAll parts raws lines a
-    walked_fault lines never trees are = from_here trees a (entry_map parts (pools_by parts) IsYes _ (entries_named parts (take at raws)) w.block (entry_named parts raw) a (λ y. absurd (never y)) of)
+    walked_fault lines never trees are = from_here trees a (entry_map parts (pools_by parts) IsYes (behind trees) (entries_named parts (take at raws)) w.block (entry_named parts raw) a (λ y. absurd (never y)) of)
 
     next_before : entries_named parts (take at raws) ++ entry_named parts raw ∷ [] ≡ entries_named parts (take (at + 1) raws)
     next_before = sym (ap (entries_named parts) (taken raws at raw there) ∙ mapped (entry_named parts) (take at raws) [] raw)
 
     pub walked_on : a ≡ Yes → (new : Seen) → SeesMore parts seen (entry_named parts raw) new → HasWalked parts raws (at + 1) new
-    walked_on yes new more =
-        let fine = subst (OfEntry parts (pools_by parts) (entries_named parts (take at raws)) w.block (entry_named parts raw) IsYes) yes of in record {
+    walked_on good new more =
+        let fine = subst (OfEntry parts (pools_by parts) (entries_named parts (take at raws)) w.block (entry_named parts raw) IsYes) good of in record {
           block = block_after w.block (entry_named parts raw);
           has = subst (λ l. HasSeen parts l (block_after w.block (entry_named parts raw)) new) next_before (more (entries_named parts (take at raws)) w.block w.has fine);
-          on = λ trees b h. from_here trees b (entry_on parts (pools_by parts) IsYes _ (entries_named parts (take at raws)) w.block (entry_named parts raw) b
+          on = λ trees b h. from_here trees b (entry_on parts (pools_by parts) IsYes (behind trees) (entries_named parts (take at raws)) w.block (entry_named parts raw) b
               (λ y. subst (λ l. EntriesFrom parts raws trees l (block_after w.block (entry_named parts raw)) (entries_named parts (drop (at + 1) raws)) b) (sym next_before) h) fine);
         }
 
@@ -109,7 +111,7 @@ module _ (parts : SigParts) (raws : List Written) where
         (answer (entries_named parts raws) w.block has number_after))
 
     pub end_trees : (lines : List WrittenTree) → a ≡ Yes → (b : Answer) → AnswersTrees seen.spreads seen.lives lines number b → AnswersAll parts raws lines b
-    end_trees lines yes b told trees are = to_all trees b (end_on parts (pools_by parts) IsYes (close trees) (entries_named parts raws) w.block b
+    end_trees lines good b told trees are = to_all trees b (end_on parts (pools_by parts) IsYes (close trees) (entries_named parts raws) w.block b
         (λ y. subst (λ n. InTrees parts (pools_by parts) (entries_named parts raws) n [] trees b) number_after
         (told (entries_named parts raws) trees (sym has.spread) (sym has.live) are))
-        (subst (OfEnd parts (entries_named parts raws) w.block IsYes) yes (answer (entries_named parts raws) w.block has number_after)))
+        (subst (OfEnd parts (entries_named parts raws) w.block IsYes) good (answer (entries_named parts raws) w.block has number_after)))

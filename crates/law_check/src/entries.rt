@@ -226,17 +226,35 @@ fn before_all(alloc: Global, sig: &Sig) -> Result<Seen, NoMemory>
     })
 }
 
-/// After an equation with a number.
-fn with_equation(seen: Seen, q: Equation) -> Result<Seen, NoMemory>
-    ensures { IfOk result (λ new. new ≡ record seen { known = seen.known ++ q ∷ [] }) }
+fn with_law(sig: &Sig, seen: Seen, number: u64, q: Equation) -> Result<Seen, NoMemory>
+    ensures { IfOk result (SeesMore sig.now seen (e.Law number q)) }
 {
+    let _sig = sig;
+    let _number = number;
+    let mut seen = seen;
+    seen.known.push(q)?;
+    Ok(seen)
+}
+
+fn with_lemma(
+    sig: &Sig,
+    seen: Seen,
+    number: u64,
+    q: Equation,
+    steps: &[Step],
+) -> Result<Seen, NoMemory>
+    ensures { IfOk result (SeesMore sig.now seen (e.Lemma number q steps.now)) }
+{
+    let _sig = sig;
+    let _number = number;
+    let _steps = steps;
     let mut seen = seen;
     seen.known.push(q)?;
     Ok(seen)
 }
 
 fn with_spread(alloc: Global, sig: &Sig, seen: Seen, schema: Tree) -> Result<Seen, NoMemory>
-    ensures { IfOk result (λ new. SeesMore sig.now seen (e.Spread schema) new) }
+    ensures { IfOk result (SeesMore sig.now seen (e.Spread schema)) }
 {
     let Seen {
         known,
@@ -255,7 +273,7 @@ fn with_spread(alloc: Global, sig: &Sig, seen: Seen, schema: Tree) -> Result<See
 }
 
 fn with_killed(alloc: Global, sig: &Sig, seen: Seen, q: &Equation, steps: &[Step]) -> Result<Seen, NoMemory>
-    ensures { IfOk result (λ new. SeesMore sig.now seen (e.Killed q.now steps.now) new) }
+    ensures { IfOk result (SeesMore sig.now seen (e.Killed q.now steps.now)) }
 {
     let Seen {
         known,
@@ -273,7 +291,7 @@ fn with_killed(alloc: Global, sig: &Sig, seen: Seen, q: &Equation, steps: &[Step
 }
 
 fn with_live(alloc: Global, sig: &Sig, seen: Seen, term: Tree) -> Result<Seen, NoMemory>
-    ensures { IfOk result (λ new. SeesMore sig.now seen (e.Live term) new) }
+    ensures { IfOk result (SeesMore sig.now seen (e.Live term)) }
 {
     let Seen {
         known,
@@ -292,7 +310,7 @@ fn with_live(alloc: Global, sig: &Sig, seen: Seen, term: Tree) -> Result<Seen, N
 }
 
 fn with_moved(alloc: Global, sig: &Sig, seen: Seen, q: &Equation, steps: &[Step]) -> Result<Seen, NoMemory>
-    ensures { IfOk result (λ new. SeesMore sig.now seen (e.Moved q.now steps.now) new) }
+    ensures { IfOk result (SeesMore sig.now seen (e.Moved q.now steps.now)) }
 {
     let Seen {
         known,
@@ -311,17 +329,11 @@ fn with_moved(alloc: Global, sig: &Sig, seen: Seen, q: &Equation, steps: &[Step]
 
 /// After an entry of which nothing is wrong.
 fn with_entry(alloc: Global, sig: &Sig, seen: Seen, entry: Entry) -> Result<Seen, NoMemory>
-    ensures { IfOk result (λ new. SeesMore sig.now seen entry new) }
+    ensures { IfOk result (SeesMore sig.now seen entry) }
 {
     match entry {
-        Entry::Law(_number, q) => {
-            let seen = with_equation(seen, q)?;
-            Ok(seen)
-        }
-        Entry::Lemma(_number, q, _steps) => {
-            let seen = with_equation(seen, q)?;
-            Ok(seen)
-        }
+        Entry::Law(number, q) => with_law(sig, seen, number, q),
+        Entry::Lemma(number, q, steps) => with_lemma(sig, seen, number, q, steps.as_slice()),
         Entry::Spread(schema) => with_spread(alloc, sig, seen, schema),
         Entry::Killed(q, steps) => with_killed(alloc, sig, seen, &q, steps.as_slice()),
         Entry::Live(term) => with_live(alloc, sig, seen, term),
@@ -383,15 +395,10 @@ pub(crate) fn judge_entries(
     if !is_yes(&end) {
         return Ok(end);
     }
-    let sorts = tree_sorts(tester.alloc, names, trees)?;
-    let answer = judge_trees(
-        tester,
-        bank,
-        seen.spreads.as_slice(),
-        seen.lives.as_slice(),
-        sorts.as_slice(),
-        trees,
-        number,
-    )?;
-    Ok(answer)
+    let named = tree_sorts(tester.alloc, names, trees)?;
+    let spreads = seen.spreads.as_slice();
+    let lives = seen.lives.as_slice();
+    let sorts = named.as_slice();
+    let found = judge_trees(tester, bank, spreads, lives, sorts, trees, number)?;
+    Ok(found)
 }

@@ -42,14 +42,9 @@ fn judge_pools(
         return Ok(answer);
     }
     let universe = Universe::new(alloc, sig)?;
-    let found = judge_entries(
-        &tester,
-        &universe,
-        &names,
-        bank,
-        cert.entries.as_slice(),
-        cert.trees.as_slice(),
-    )?;
+    let entries = cert.entries.as_slice();
+    let trees = cert.trees.as_slice();
+    let found = judge_entries(&tester, &universe, &names, bank, entries, trees)?;
     Ok(found)
 }
 

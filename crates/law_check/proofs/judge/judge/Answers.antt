@@ -10,8 +10,5 @@ pub pools_of-requires : goal.pools_of-requires
 pools_of-requires c = few_enough (assignments c.args.sig.now) c.assignments-ways.result c.assignments-ways.ensures (search rules)
 
 pub returns-in-Ok : goal.returns-in-Ok
-returns-in-Ok c = within_limits c.args.sig.now c.args.cert.now c.in_ok-answer.answer c.settings-_settings.ensures.well_formed
-    (few_enough (assignments c.args.sig.now) c.assignments-ways.result c.assignments-ways.ensures (search rules)) c.in-Ok.ensures.small c.in_ok-answer.ensures
-
-pub returns-in-Err-in-ValueTooLarge : goal.returns-in-Err-in-ValueTooLarge
-returns-in-Err-in-ValueTooLarge c = over_limits c.args.sig.now c.args.cert.now (large_value c.args.sig.now c.args.cert.now _ _ c.in-Err.ensures.large)
+returns-in-Ok c = within_limits c.args.sig.now c.args.cert.now c.in_ok-answer-in-Ok.answer c.settings-settings.ensures.well_formed
+    (few_enough (assignments c.args.sig.now) c.assignments-ways.result c.assignments-ways.ensures (search rules)) c.in-Ok.ensures.small c.in_ok-answer-in-Ok.ensures
