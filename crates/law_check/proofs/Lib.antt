@@ -5,3 +5,4 @@ pub mod Counted
 pub mod Comparing
 pub mod Bounds
 pub mod Falling
+pub mod Meanings

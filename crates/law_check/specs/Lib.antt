@@ -4,3 +4,4 @@ pub mod Counting
 pub mod Replaying
 pub mod Binds
 pub mod Rules
+pub mod Terms

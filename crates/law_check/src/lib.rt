@@ -4,6 +4,7 @@
 
 mod replay;
 mod rules;
+mod term;
 mod terms;
 mod verdict;
 mod verify;
