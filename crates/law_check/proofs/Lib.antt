@@ -14,3 +14,4 @@ pub mod Bounds
 mod SameLists
 pub mod CertFacts
 pub mod Falling
+pub mod Meanings

@@ -9,3 +9,4 @@ pub mod Replaying
 pub mod Binds
 pub mod Steps
 pub mod Rules
+pub mod Terms

@@ -12,6 +12,7 @@ mod pools;
 mod replay;
 mod rows;
 mod rules;
+mod term;
 mod terms;
 #[cfg(test)]
 mod tests;

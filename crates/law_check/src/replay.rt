@@ -1,133 +1,19 @@
-ghost use Rattle.std.specs.Prelude.{◌≡◌, ◌↔◌, ◌<◌, ◌+◌, [], ◌∷◌, ◌++◌, length, map, take, drop, IfOk, OnOk, IsTrue, MatchOption};
-ghost use Rattle.law_sig.specs.Trees.{substituted};
-ghost use Rattle.law_sig.specs.declared.tree.Tree.TheVariants.{Var};
-ghost use Rattle.law_valid.specs.Chains.{bound_in, start_side, end_side};
+ghost use Rattle.std.specs.Prelude.{◌≡◌, ◌↔◌, ◌<◌, ◌+◌, [], ◌∷◌, ◌++◌, length, map, take, drop, IfOk, OnOk, IsTrue, option_map};
+ghost use Rattle.law_valid.specs.Chains.{start_side, end_side};
 ghost use Rattle.std.specs.Option.{option_copied};
 ghost use Rattle.law_valid.specs.Stated.{numbered};
 ghost use Rattle.law_valid.specs.Chains.{AreBinds, Replays};
 ghost use Rattle.law_check.specs.Binds.{stands, is_given, is_covered, fits, is_earlier, rises};
-ghost use Rattle.law_check.specs.Replaying.{IsReplaced, IsStepped};
+ghost use Rattle.law_check.specs.Replaying.{IsStepped};
+ghost use Rattle.law_check.specs.Terms.{meaning};
 ghost use Rattle.std.specs.List.{list_all};
 
+use super::term::{Term, is_tree, replaced};
+use bumpalo::Bump;
 use law_cert::Dir;
-use law_sig::{Equation, NoMemory, Seq, Sig, SortId, Tree};
+use law_sig::{Equation, NoMemory, Sig, SortId, Tree};
 use law_valid::{Bind, Step};
 use std::alloc::Global;
-
-/// The term that is given for a variable, where there is one.
-fn bound<'a>(binds: &'a [Bind], sort: SortId, index: u32) -> Option<&'a Tree>
-    ensures { MatchOption result (bound_in binds.now sort index ≡ Var sort index) (λ term. bound_in binds.now sort index ≡ term.now) }
-{
-    for bind in binds {
-        if bind.sort.0 == sort.0 && bind.index == index {
-            return Some(&bind.term);
-        }
-    }
-    None
-}
-
-/// Whether a term is a side of an equation with these terms for its variables.
-fn is_instance(side: &Tree, binds: &[Bind], term: &Tree) -> bool
-    ensures { IsTrue result ↔ (term.now ≡ substituted (bound_in binds.now) side.now) }
-{
-    match side {
-        Tree::Var(sort, index) => match bound(binds, *sort, *index) {
-            Some(found) => term.is_same(found),
-            None => term.is_same(side),
-        },
-        Tree::App(head, args) => {
-            let Tree::App(other_head, other_args) = term else {
-                return false;
-            };
-            if head.0 != other_head.0 {
-                return false;
-            }
-            if args.len() != other_args.len() {
-                return false;
-            }
-            let others = other_args.as_slice();
-            for (at, arg) in args.as_slice().iter().enumerate() {
-                if !is_instance(arg, binds, &others[at]) {
-                    return false;
-                }
-            }
-            true
-        }
-    }
-}
-
-/// A side of an equation with these terms for its variables.
-fn instance(side: &Tree, alloc: Global, binds: &[Bind]) -> Result<Tree, NoMemory>
-    ensures { IfOk result (λ term. term ≡ substituted (bound_in binds.now) side.now) }
-{
-    match side {
-        Tree::Var(sort, index) => match bound(binds, *sort, *index) {
-            Some(found) => found.copy(alloc),
-            None => Ok(Tree::Var(*sort, *index)),
-        },
-        Tree::App(head, args) => {
-            let mut made = Seq::new(alloc);
-            for arg in args.as_slice() {
-                made.push(instance(arg, alloc, binds)?)?;
-            }
-            Ok(Tree::App(*head, made))
-        }
-    }
-}
-
-/// Adds copies of these terms.
-fn push_copies(alloc: Global, made: &mut Seq<Tree>, terms: &[Tree]) -> Result<(), NoMemory>
-    ensures { OnOk result (made.new ≡ made.old ++ terms.now) }
-{
-    for term in terms {
-        made.push(term.copy(alloc)?)?;
-    }
-    Ok(())
-}
-
-/// Copies of these terms, but for the one at a place, for which there is a new one.
-fn with_item(alloc: Global, terms: &[Tree], at: usize, new: Tree) -> Result<Seq<Tree>, NoMemory>
-    requires { at < length terms.now }
-    ensures { IfOk result (λ made. made ≡ (take at terms.now ++ new ∷ []) ++ drop (at + 1) terms.now) }
-{
-    let mut made = Seq::new(alloc);
-    push_copies(alloc, &mut made, &terms[..at])?;
-    made.push(new)?;
-    push_copies(alloc, &mut made, &terms[at + 1..])?;
-    Ok(made)
-}
-
-/// The term with one side of an equation replaced by the other at a place; `None` exactly where the first side's instance
-/// doesn't stand there.
-fn replaced(
-    term: &Tree,
-    alloc: Global,
-    place: &[u32],
-    binds: &[Bind],
-    from: &Tree,
-    to: &Tree,
-) -> Result<Option<Tree>, NoMemory>
-    ensures { IfOk result (λ found. IsReplaced (substituted (bound_in binds.now) from.now) (substituted (bound_in binds.now) to.now) place.now term.now found) }
-{
-    let Some((first, rest)) = place.split_first() else {
-        if is_instance(from, binds, term) {
-            return Ok(Some(instance(to, alloc, binds)?));
-        }
-        return Ok(None);
-    };
-    let Tree::App(head, args) = term else {
-        return Ok(None);
-    };
-    let at = *first as usize;
-    let items = args.as_slice();
-    let Some(arg) = args.get(at) else {
-        return Ok(None);
-    };
-    let Some(new) = replaced(arg, alloc, rest, binds, from, to)? else {
-        return Ok(None);
-    };
-    Ok(Some(Tree::App(*head, with_item(alloc, items, at, new)?)))
-}
 
 /// The side that a step starts from.
 fn start<'a>(step: &Step, q: &'a Equation) -> &'a Tree
@@ -264,14 +150,14 @@ fn equation(known: &[Equation], number: u64) -> Option<&Equation>
 }
 
 /// The term that a step leads to; `None` exactly where it leads to none.
-fn step(
-    alloc: Global,
+fn step<'a>(
+    arena: &'a Bump<Global>,
     sig: &Sig,
-    known: &[Equation],
-    step: &Step,
-    term: &Tree,
-) -> Result<Option<Tree>, NoMemory>
-    ensures { IfOk result (λ found. IsStepped sig.now known.now step.now term.now found) }
+    known: &'a [Equation],
+    step: &'a Step,
+    term: Term<'a>,
+) -> Result<Option<Term<'a>>, NoMemory>
+    ensures { IfOk result (λ found. IsStepped sig.now known.now step.now (meaning term.entry) (option_map meaning found)) }
 {
     let Some(q) = equation(known, step.number) else {
         return Ok(None);
@@ -281,7 +167,7 @@ fn step(
         return Ok(None);
     }
     let place = step.place.as_slice();
-    let found = replaced(term, alloc, place, binds, start(step, q), end(step, q))?;
+    let found = replaced(arena, term, place, binds, start(step, q), end(step, q))?;
     Ok(found)
 }
 
@@ -296,12 +182,13 @@ pub fn replays(
 ) -> Result<bool, NoMemory>
     ensures { IfOk result (λ leads. IsTrue leads ↔ Replays sig.now known.now steps.now from.now to.now) }
 {
-    let mut current = from.copy(alloc)?;
+    let arena = Bump::new(alloc);
+    let mut current = Term::Whole(from);
     for next in steps {
-        let Some(found) = step(alloc, sig, known, next, &current)? else {
+        let Some(found) = step(&arena, sig, known, next, current)? else {
             return Ok(false);
         };
         current = found;
     }
-    Ok(current.is_same(to))
+    Ok(is_tree(to, current))
 }
