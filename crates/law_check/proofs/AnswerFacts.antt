@@ -125,15 +125,25 @@ module _ (parts : SigParts) (seen : Seen) (number : ℕ) where
       → TellsKilled parts seen.known q steps f → f ≡ false → IsAnswerTo parts seen number (e.Killed q steps) (No r.V6 number)
   killed_refused q steps c b d f same tells off next is killed refused before block has at =
       let s = spent before block has b tells off in
-      inl (s, inl (subst (IsSchemaNext (progress parts before block)) same ((next (progress parts before block) has.agenda s).0 is),
-      inr (never_of (killed before has.equations) refused, ap (No r.V6) at)))
+      inl (
+        s,
+        inl (
+          subst (IsSchemaNext (progress parts before block)) same ((next (progress parts before block) has.agenda s).0 is),
+          inr (never_of (killed before has.equations) refused, ap (No r.V6) at),
+        ),
+      )
 
   pub killed_agrees : (q : Equation) (steps : List Step) (c : Tree) (b d f : Bool) (a : Answer) → c ≡ schema_of q.left → TellsAwaited b → b ≡ false → TellsSchema c d
       → d ≡ true → TellsKilled parts seen.known q steps f → f ≡ true → AtTests parts (pools_by parts) r.V6 number q IsYes a → IsAnswerTo parts seen number (e.Killed q steps) a
   killed_agrees q steps c b d f a same tells off next is killed holds tests before block has at =
       let s = spent before block has b tells off in
-      inl (s, inl (subst (IsSchemaNext (progress parts before block)) same ((next (progress parts before block) has.agenda s).0 is),
-      inl ((killed before has.equations).0 holds, subst (λ n. AtTests parts (pools_by parts) r.V6 n q IsYes a) at tests)))
+      inl (
+        s,
+        inl (
+          subst (IsSchemaNext (progress parts before block)) same ((next (progress parts before block) has.agenda s).0 is),
+          inl ((killed before has.equations).0 holds, subst (λ n. AtTests parts (pools_by parts) r.V6 n q IsYes a) at tests),
+        ),
+      )
 
   pub killed_is : (q : Equation) (steps : List Step) (f : Bool) → HasPlace parts seen → TellsKilled parts seen.known q steps f → f ≡ true → IsTestable parts q.left × IsTestable parts q.right
   killed_is q steps f at killed holds =
@@ -173,14 +183,24 @@ module _ (parts : SigParts) (seen : Seen) (number : ℕ) where
   pub moved_refused : (q : Equation) (steps : List Step) (b d g f : Bool) → TellsAwaited b → b ≡ true → TellsTerm q.left d → d ≡ true → IsEarlier q g → TellsMoved parts seen.known g q steps f → f ≡ false
       → IsAnswerTo parts seen number (e.Moved q steps) (No r.V7 number)
   moved_refused q steps b d g f tells on next is earlier moved refused before block has at =
-      inl ((tells (progress parts before block) has.agenda).0 on, inl ((next (progress parts before block) has.agenda has.live).0 is,
-      inr (never_of (moved before has.equations (earlier_before before block has q g earlier)) refused, ap (No r.V7) at)))
+      inl (
+        (tells (progress parts before block) has.agenda).0 on,
+        inl (
+          (next (progress parts before block) has.agenda has.live).0 is,
+          inr (never_of (moved before has.equations (earlier_before before block has q g earlier)) refused, ap (No r.V7) at),
+        ),
+      )
 
   pub moved_agrees : (q : Equation) (steps : List Step) (b d g f : Bool) (a : Answer) → TellsAwaited b → b ≡ true → TellsTerm q.left d → d ≡ true → IsEarlier q g → TellsMoved parts seen.known g q steps f
       → f ≡ true → AtTests parts (pools_by parts) r.V7 number q IsYes a → IsAnswerTo parts seen number (e.Moved q steps) a
   moved_agrees q steps b d g f a tells on next is earlier moved holds tests before block has at =
-      inl ((tells (progress parts before block) has.agenda).0 on, inl ((next (progress parts before block) has.agenda has.live).0 is,
-      inl ((moved before has.equations (earlier_before before block has q g earlier)).0 holds, subst (λ n. AtTests parts (pools_by parts) r.V7 n q IsYes a) at tests)))
+      inl (
+        (tells (progress parts before block) has.agenda).0 on,
+        inl (
+          (next (progress parts before block) has.agenda has.live).0 is,
+          inl ((moved before has.equations (earlier_before before block has q g earlier)).0 holds, subst (λ n. AtTests parts (pools_by parts) r.V7 n q IsYes a) at tests),
+        ),
+      )
 
   pub moved_is : (q : Equation) (steps : List Step) (d g f : Bool) → HasPlace parts seen → TellsTerm q.left d → d ≡ true → IsEarlier q g → TellsMoved parts seen.known g q steps f → f ≡ true
       → IsTestable parts q.left × IsTestable parts q.right

@@ -61,8 +61,8 @@ JudgedOver parts cert a = (trees : List SortTree) → AreTreesOf parts cert.tree
 abbrev pub JudgedPools : SigParts → Cert → Answer → Type 0
 JudgedPools parts cert a = (trees : List SortTree) → AreTreesOf parts cert.trees trees
     → If (pools_named parts cert.pools ≡ pools_by parts) (answer.No r.V2 0)
-      (Background parts (pools_named parts cert.pools) parts.settings.background
-      (Entries parts (pools_named parts cert.pools) (InTrees parts (pools_named parts cert.pools) (entries_named parts cert.entries) (entry_after (entries_named parts cert.entries)) [] trees) [] None (entries_named parts cert.entries))) a
+    (Background parts (pools_named parts cert.pools) parts.settings.background
+    (Entries parts (pools_named parts cert.pools) (InTrees parts (pools_named parts cert.pools) (entries_named parts cert.entries) (entry_after (entries_named parts cert.entries)) [] trees) [] None (entries_named parts cert.entries))) a
 
 -- a yes comes with the counts, and a no is what the order of checking finds first
 abbrev pub IsVerdict : Cert → Verdict → Type 0

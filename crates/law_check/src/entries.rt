@@ -272,7 +272,13 @@ fn with_spread(alloc: Global, sig: &Sig, seen: Seen, schema: Tree) -> Result<See
     })
 }
 
-fn with_killed(alloc: Global, sig: &Sig, seen: Seen, q: &Equation, steps: &[Step]) -> Result<Seen, NoMemory>
+fn with_killed(
+    alloc: Global,
+    sig: &Sig,
+    seen: Seen,
+    q: &Equation,
+    steps: &[Step],
+) -> Result<Seen, NoMemory>
     ensures { IfOk result (SeesMore sig.now seen (e.Killed q.now steps.now)) }
 {
     let Seen {
@@ -309,7 +315,13 @@ fn with_live(alloc: Global, sig: &Sig, seen: Seen, term: Tree) -> Result<Seen, N
     })
 }
 
-fn with_moved(alloc: Global, sig: &Sig, seen: Seen, q: &Equation, steps: &[Step]) -> Result<Seen, NoMemory>
+fn with_moved(
+    alloc: Global,
+    sig: &Sig,
+    seen: Seen,
+    q: &Equation,
+    steps: &[Step],
+) -> Result<Seen, NoMemory>
     ensures { IfOk result (SeesMore sig.now seen (e.Moved q.now steps.now)) }
 {
     let Seen {

@@ -110,12 +110,7 @@ impl<'s> Names<'s> {
         }
     }
 
-    fn equation(
-        &self,
-        alloc: Global,
-        left: &RawTerm,
-        right: &RawTerm,
-    ) -> Result<Equation, NoMemory>
+    fn equation(&self, alloc: Global, left: &RawTerm, right: &RawTerm) -> Result<Equation, NoMemory>
         ensures { IfOk result (λ q. q ≡ record { left = term_named self.now left.now; right = term_named self.now right.now }) }
     {
         let left = self.term(alloc, left)?;

@@ -97,15 +97,55 @@ fn damaged_certificates(rt: HostRuntime) {
     let alloc = rt.alloc();
     assert!(rt; is_no(alloc, CONJUNCTION, 5, 5, b"width 0\n", Rule::V1, 0));
     assert!(rt; is_no(alloc, CONJUNCTION, 21, 21, b"values B T F\n", Rule::V2, 0));
-    assert!(rt; is_no(alloc, CONJUNCTION, 26, 26, b"law 1 saturated and B.0 B.1 = B.0\n", Rule::V3, 5));
+    assert!(rt;
+        is_no(
+            alloc,
+            CONJUNCTION,
+            26,
+            26,
+            b"law 1 saturated and B.0 B.1 = B.0\n",
+            Rule::V3,
+            5
+        )
+    );
     assert!(rt; is_no(alloc, CONJUNCTION, 25, 25, b"", Rule::V5, 5));
-    assert!(rt; is_no(alloc, CONJUNCTION, 27, 27, b"moved and B.0 B.0 = and B.0 B.1\n", Rule::V7, 6));
+    assert!(rt;
+        is_no(
+            alloc,
+            CONJUNCTION,
+            27,
+            27,
+            b"moved and B.0 B.0 = and B.0 B.1\n",
+            Rule::V7,
+            6
+        )
+    );
     assert!(rt; is_no(alloc, CONJUNCTION, 36, 36, b"class 1\n", Rule::V8, 11));
     assert!(rt; is_no(alloc, CONJUNCTION, 41, 41, b"leaf 2\n", Rule::V9, 11));
     assert!(rt; is_no(alloc, CONJUNCTION, 39, 39, b"split 0 2\n", Rule::V9, 11));
     assert!(rt; is_no(alloc, CONJUNCTION, 29, 29, b"", Rule::V7, 8));
-    assert!(rt; is_no(alloc, ROTATION, 39, 40, b"step 0 4 rl M.0 M.0\nstep - 4 lr M.0 (g M.0)\n", Rule::V4, 9));
-    assert!(rt; is_no(alloc, FIRST, 24, 24, b"killed k B.0 B.0 = B.0\n", Rule::V6, 5));
+    assert!(rt;
+        is_no(
+            alloc,
+            ROTATION,
+            39,
+            40,
+            b"step 0 4 rl M.0 M.0\nstep - 4 lr M.0 (g M.0)\n",
+            Rule::V4,
+            9
+        )
+    );
+    assert!(rt;
+        is_no(
+            alloc,
+            FIRST,
+            24,
+            24,
+            b"killed k B.0 B.0 = B.0\n",
+            Rule::V6,
+            5
+        )
+    );
 }
 
 /// The term of an evaluation that is over, where it is this one.

@@ -27,10 +27,10 @@ returns-then-not-is_yes c = walked_fault c.args.tester.now.sig.now c.args.entrie
 pub loop-at-preserved : goal.loop-at-preserved
 loop-at-preserved c = record {
   walked = walked_on c.args.tester.now.sig.now c.args.entries.now c.loop-at.at c.index-entries-at.result (slice_get_read c.args.entries.now (length c.args.entries.now) c.loop-at.at c.index-entries-at.result refl c.loop-at-test.true c.index-entries-at.is) c.loop-at.seen c.loop-at.invariant.walked c.in_ok-answer.answer
-    (subst (λ p. IsAnswerTo c.args.tester.now.sig.now c.loop-at.seen (c.loop-at.at + 1) (entry_named p c.index-entries-at.result) c.in_ok-answer.answer) c.requires.names
-    (subst (λ x. IsAnswerTo c.args.tester.now.sig.now c.loop-at.seen (c.loop-at.at + 1) x c.in_ok-answer.answer) c.in_ok-entry.ensures c.in_ok-answer.ensures.answer)) (c.is_yes.ensures.0 c.if-not-is_yes.false) c.in_ok-seen-2.seen
-    (subst (λ p. SeesMore c.args.tester.now.sig.now c.loop-at.seen (entry_named p c.index-entries-at.result) c.in_ok-seen-2.seen) c.requires.names
-    (subst (λ x. SeesMore c.args.tester.now.sig.now c.loop-at.seen x c.in_ok-seen-2.seen) c.in_ok-entry.ensures c.in_ok-seen-2.ensures));
+      (subst (λ p. IsAnswerTo c.args.tester.now.sig.now c.loop-at.seen (c.loop-at.at + 1) (entry_named p c.index-entries-at.result) c.in_ok-answer.answer) c.requires.names
+      (subst (λ x. IsAnswerTo c.args.tester.now.sig.now c.loop-at.seen (c.loop-at.at + 1) x c.in_ok-answer.answer) c.in_ok-entry.ensures c.in_ok-answer.ensures.answer)) (c.is_yes.ensures.0 c.if-not-is_yes.false) c.in_ok-seen-2.seen
+      (subst (λ p. SeesMore c.args.tester.now.sig.now c.loop-at.seen (entry_named p c.index-entries-at.result) c.in_ok-seen-2.seen) c.requires.names
+      (subst (λ x. SeesMore c.args.tester.now.sig.now c.loop-at.seen x c.in_ok-seen-2.seen) c.in_ok-entry.ensures c.in_ok-seen-2.ensures));
   grows = grows_on c.args.bank.now c.loop-at.bank c.of_entry.new.bank c.loop-at.invariant.grows c.of_entry.ensures.grows;
 }
 
