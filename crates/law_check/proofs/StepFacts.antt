@@ -32,7 +32,7 @@ use Rattle.law_valid.specs.Expected.{IsAbove}
 use Rattle.law_valid.proofs.StatedFacts.{stated_parts, each_both, rising_both}
 use Rattle.law_valid.proofs.Blocks.{spread_schema}
 use Rattle.law_valid.proofs.Passing.{if_yes, never_no}
-use Rattle.law_check.specs.Progress.{Progress, after_spread, after_killed, after_term, IsSchemaNext, IsTermNext, IsTermSpent}
+use Rattle.law_check.specs.Progress.{Progress, at_start, after_spread, after_killed, after_term, IsSchemaNext, IsTermNext, IsTermSpent}
 use Rattle.law_check.specs.Agendas.{IsAt}
 use Rattle.law_check.specs.declared.entries.Seen.{Seen}
 use Rattle.law_check.specs.Steps.{IsYes, OfEntry, OfEnd, block_after, progress, HasSeen, SeesMore}
@@ -165,6 +165,20 @@ considered_testable parts spreads c fine (application f cs sort explored each so
 pub next_testable : (parts : SigParts) (lives : List Tree) (block : Option Block) (t : Tree) → IsNextTerm parts lives block t → IsTestable parts t
 next_testable parts lives None t h = absurd h
 next_testable parts lives (Some block) t h = universe_testable parts h.is.sort t h.is.bounded
+
+-- What has been seen before the first entry
+
+pub none_seen : (parts : SigParts) (seen : Seen) → seen.known ≡ parts.settings.background → seen.spreads ≡ [] → seen.lives ≡ [] → IsAt seen.agenda (at_start parts)
+    → HasSeen parts [] None seen
+none_seen parts seen k s l a = record {
+  equations = k ∙ sym (append-nil parts.settings.background);
+  spread = s;
+  live = l;
+  agenda = a;
+  spread_distinct = tt;
+  spread_testable = tt;
+  live_testable = tt;
+}
 
 -- What has been seen after one more entry
 

@@ -229,8 +229,6 @@ fn before_all(alloc: Global, sig: &Sig) -> Result<Seen, NoMemory>
 fn with_law(sig: &Sig, seen: Seen, number: u64, q: Equation) -> Result<Seen, NoMemory>
     ensures { IfOk result (SeesMore sig.now seen (e.Law number q)) }
 {
-    let _sig = sig;
-    let _number = number;
     let mut seen = seen;
     seen.known.push(q)?;
     Ok(seen)
@@ -245,9 +243,6 @@ fn with_lemma(
 ) -> Result<Seen, NoMemory>
     ensures { IfOk result (SeesMore sig.now seen (e.Lemma number q steps.now)) }
 {
-    let _sig = sig;
-    let _number = number;
-    let _steps = steps;
     let mut seen = seen;
     seen.known.push(q)?;
     Ok(seen)
