@@ -3,9 +3,13 @@
 #![tactic(auto)]
 
 mod agenda;
+mod candidates;
 mod rows;
+mod shelves;
+mod stores;
 mod verdict;
 mod verify;
+mod walks;
 
 pub use law_valid::Rule;
 pub use verdict::{CheckErr, Counts, Verdict};
