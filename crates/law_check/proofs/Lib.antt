@@ -5,3 +5,4 @@ pub mod Staging
 pub mod Symbols
 pub mod Seeking
 pub mod Storing
+pub mod Instancing

@@ -38,6 +38,11 @@ length_at [] k = refl
 length_at (l ∷ list) zero = refl
 length_at (l ∷ list) (suc k) = length_at list k
 
+pub present : {A : Type 0} (xs : List A) (n : ℕ) (d x : A) → Some x ≡ slice_get xs n → slice_index_or xs n d ≡ x
+present [] n d x e = none_is x (sym e)
+present (y ∷ xs) zero d x e = sym (some_is x y e)
+present (y ∷ xs) (suc n) d x e = present xs n d x e
+
 pub missing : {A : Type 0} (xs : List A) (n : ℕ) (d : A) → None ≡ slice_get xs n → slice_index_or xs n d ≡ d
 missing [] n d e = refl
 missing (x ∷ xs) zero d e = none_is x e

@@ -177,7 +177,7 @@ some_case X Y o a e h = subst (λ z. MatchOption z X Y) e h
 pub none_case : {A : Type 0} (X : Type 0) (Y : A → Type 0) (o : Option A) → o ≡ None → MatchOption o X Y → X
 none_case X Y o e h = subst (λ z. MatchOption z X Y) e h
 
-sorts_are : (o : Option Sym) (ss : List SortId) → option_map args_of o ≡ Some ss → sorts_of o ≡ ss
+pub sorts_are : (o : Option Sym) (ss : List SortId) → option_map args_of o ≡ Some ss → sorts_of o ≡ ss
 sorts_are None ss e = none_is ss e
 sorts_are (Some symbol) ss e = some_is (args_of symbol) ss e
 

@@ -6,5 +6,6 @@ pub mod Stages
 pub mod Shelves
 pub mod Candidates
 pub mod Stores
+pub mod Instances
 pub mod Progress
 pub mod Agendas

@@ -4,6 +4,7 @@
 
 mod agenda;
 mod candidates;
+mod instances;
 mod rows;
 mod shelves;
 mod stores;
