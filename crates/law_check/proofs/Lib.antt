@@ -15,3 +15,10 @@ mod SameLists
 pub mod CertFacts
 pub mod Falling
 pub mod Meanings
+pub mod Transfer
+pub mod Picking
+pub mod Staging
+pub mod Symbols
+pub mod Seeking
+pub mod Storing
+pub mod Instancing

@@ -49,12 +49,12 @@ fits_sum counts more known sums is none weight e (p ∷ ps) (small, below, rest)
     by (inl no_choice) = omega arith
     by (inr not_behind) = is (weight - p.weight) not_behind ps rest
 
-at_kept : {A : Type 0} (xs ys : List A) (n : ℕ) (d : A) → n < length xs → slice_index_or (xs ++ ys) n d ≡ slice_index_or xs n d
+pub at_kept : {A : Type 0} (xs ys : List A) (n : ℕ) (d : A) → n < length xs → slice_index_or (xs ++ ys) n d ≡ slice_index_or xs n d
 at_kept [] ys n d less = absurd (omega arith)
 at_kept (x ∷ xs) ys zero d less = refl
 at_kept (x ∷ xs) ys (suc n) d less = at_kept xs ys n d (omega arith)
 
-at_end : {A : Type 0} (xs : List A) (x : A) (n : ℕ) (d : A) → n ≡ length xs → slice_index_or (xs ++ x ∷ []) n d ≡ x
+pub at_end : {A : Type 0} (xs : List A) (x : A) (n : ℕ) (d : A) → n ≡ length xs → slice_index_or (xs ++ x ∷ []) n d ≡ x
 at_end [] x zero d e = refl
 at_end [] x (suc n) d e = absurd (omega arith)
 at_end (y ∷ xs) x zero d e = absurd (omega arith)
@@ -132,7 +132,7 @@ pub first_none : (first : List ℕ) (rest : List (List ℕ)) (weight from own : 
 first_none first rest weight from own past h [] is above = is.0
 first_none first rest weight from own past h (p ∷ ps) is above = let k = h (p ∷ ps) is in let small = is.0.0 in omega arith
 
-same_pick : (p q : Pick) → p.weight ≡ q.weight → p.at ≡ q.at → p ≡ q
+pub same_pick : (p q : Pick) → p.weight ≡ q.weight → p.at ≡ q.at → p ≡ q
 same_pick p q e k = ap₂ pick e k
   where
     pick : ℕ → ℕ → Pick

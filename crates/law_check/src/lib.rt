@@ -19,6 +19,14 @@ mod tests;
 mod trees;
 mod values;
 mod verdict;
+mod candidates;
+mod instances;
+mod rows;
+mod shelves;
+mod stores;
+mod verdict;
+mod verify;
+mod walks;
 
 pub use check::verify;
 pub use law_valid::Rule;

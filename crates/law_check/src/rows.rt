@@ -54,9 +54,8 @@ pub fn first_from(
     weight: usize,
     from: usize,
 ) -> Result<Option<Seq<Pick>>, NoMemory>
-    requires small { weight < 2 ^ 32 }
-    requires fits { AreFits choices.now fits.now }
-    ensures { IfOk result (λ r. MatchOption r (IsSpent (Lex IsLower) (IsRowFrom choices.now weight from) [])
+    requires { weight < 2 ^ 32 }
+    ensures { IfOk result (λ r. AreFits choices.now fits.now → MatchOption r (IsSpent (Lex IsLower) (IsRowFrom choices.now weight from) [])
         (λ row. IsFirstAbove (Lex IsLower) (IsRowFrom choices.now weight from) [] row)) }
 {
     let Some((first, rest)) = choices.split_first() else {
@@ -116,10 +115,8 @@ pub fn next_row(
     weight: usize,
     row: &[Pick],
 ) -> Result<Option<Seq<Pick>>, NoMemory>
-    requires small { weight < 2 ^ 32 }
-    requires fits { AreFits choices.now fits.now }
-    requires row { IsRow choices.now weight row.now }
-    ensures { IfOk result (λ r. MatchOption r (IsSpent (Lex IsLower) (IsRow choices.now weight) (row.now ∷ []))
+    requires { weight < 2 ^ 32 }
+    ensures { IfOk result (λ r. AreFits choices.now fits.now → IsRow choices.now weight row.now → MatchOption r (IsSpent (Lex IsLower) (IsRow choices.now weight) (row.now ∷ []))
         (λ next. IsFirstAbove (Lex IsLower) (IsRow choices.now weight) (row.now ∷ []) next)) }
 {
     let Some((first, rest)) = choices.split_first() else {
@@ -128,6 +125,9 @@ pub fn next_row(
     let Some((pick, behind)) = row.split_first() else {
         return Ok(None);
     };
+    if weight < pick.weight {
+        return Ok(None);
+    }
     if let Some(below) = next_row(alloc, rest, fits, weight - pick.weight, behind)? {
         return Ok(Some(in_front(alloc, *pick, below.as_slice())?));
     }
