@@ -1,1 +1,5 @@
 pub mod Verdicts
+pub mod Lines
+pub mod Once
+pub mod Splitting
+pub mod Planted

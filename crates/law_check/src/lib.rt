@@ -2,6 +2,10 @@
 //! of how a certificate is made.
 #![tactic(auto)]
 
+mod groups;
+mod lines;
+mod once;
+mod splits;
 mod values;
 mod verdict;
 mod verify;
