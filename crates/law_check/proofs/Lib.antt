@@ -22,3 +22,11 @@ pub mod Symbols
 pub mod Seeking
 pub mod Storing
 pub mod Instancing
+pub mod Agreeing
+pub mod Goes
+pub mod LineFacts
+pub mod Numbering
+pub mod Onces
+pub mod Taking
+pub mod Telling
+pub mod Valuing

@@ -17,3 +17,7 @@ pub mod Binds
 pub mod Steps
 pub mod Rules
 pub mod Terms
+pub mod Lines
+pub mod Once
+pub mod Splitting
+pub mod Planted

@@ -17,6 +17,10 @@ mod terms;
 #[cfg(test)]
 mod tests;
 mod trees;
+mod groups;
+mod lines;
+mod once;
+mod splits;
 mod values;
 mod verdict;
 mod candidates;
