@@ -22,8 +22,6 @@ pub mod Symbols
 pub mod Seeking
 pub mod Storing
 pub mod Instancing
-pub mod Agreeing
-pub mod Goes
 pub mod LineFacts
 pub mod Numbering
 pub mod Onces

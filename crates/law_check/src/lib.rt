@@ -3,31 +3,29 @@
 #![tactic(auto)]
 
 mod agenda;
+mod candidates;
 mod check;
 mod counts;
 mod entries;
+mod groups;
+mod instances;
 mod judge;
+mod lines;
 mod names;
+mod once;
 mod pools;
 mod replay;
 mod rows;
 mod rules;
+mod shelves;
+mod splits;
+mod stores;
 mod term;
 mod terms;
 #[cfg(test)]
 mod tests;
 mod trees;
-mod groups;
-mod lines;
-mod once;
-mod splits;
 mod values;
-mod verdict;
-mod candidates;
-mod instances;
-mod rows;
-mod shelves;
-mod stores;
 mod verdict;
 mod verify;
 mod walks;
