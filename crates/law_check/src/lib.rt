@@ -27,7 +27,6 @@ mod tests;
 mod trees;
 mod values;
 mod verdict;
-mod verify;
 mod walks;
 
 pub use check::verify;
