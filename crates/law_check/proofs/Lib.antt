@@ -6,3 +6,4 @@ pub mod Comparing
 pub mod Bounds
 pub mod Falling
 pub mod Meanings
+pub mod Walking
