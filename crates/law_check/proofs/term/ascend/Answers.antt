@@ -1,4 +1,4 @@
-use Rattle.law_check.proofs.Walking.{up}
+use Rattle.law_check.proofs.Descending.{up}
 use Rattle.law_check.proofs.term.ascend.Goals as goal
 
 pub loop-done-preserved : goal.loop-done-preserved

@@ -2,7 +2,7 @@ use Rattle.std.proofs.Common.{List, ◌+◌, drop, sym, subst}
 use Rattle.law_check.specs.declared.term.Term.{Term}
 use Rattle.law_check.specs.declared.term.Frame.{Frame}
 use Rattle.law_check.specs.Terms.{meaning, IsOpened, LeadsTo}
-use Rattle.law_check.proofs.Walking.{no_variable, no_argument, down, dropped_number}
+use Rattle.law_check.proofs.Descending.{no_variable, no_argument, down, dropped_number}
 use Rattle.law_check.proofs.term.descend.Goals as goal
 
 pub returns-in_default : goal.returns-in_default

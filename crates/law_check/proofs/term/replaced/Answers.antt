@@ -2,7 +2,7 @@ use Rattle.std.proofs.Common.{List, true≢false, refl, sym, ap, ◌∙◌, subs
 use Rattle.law_check.specs.declared.term.Frame.{Frame}
 use Rattle.law_check.specs.declared.term.Term.TheVariants.{Under}
 use Rattle.law_check.specs.Terms.{meaning, wrapped, IsReached}
-use Rattle.law_check.proofs.Walking.{put_back, not_there}
+use Rattle.law_check.proofs.Descending.{put_back, not_there}
 use Rattle.law_check.proofs.term.replaced.Goals as goal
 
 pub returns-then-not-matches : goal.returns-then-not-matches
