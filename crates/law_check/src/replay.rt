@@ -127,10 +127,10 @@ fn rises(binds: &[Bind]) -> bool
 fn are_binds(sig: &Sig, q: &Equation, binds: &[Bind]) -> bool
     ensures { IsTrue result ↔ AreBinds sig.now q.now binds.now }
 {
-    if !all_fit(sig, q, binds) {
+    if !rises(binds) {
         return false;
     }
-    if !rises(binds) {
+    if !all_fit(sig, q, binds) {
         return false;
     }
     if !is_covered(&q.left, binds) {
