@@ -98,7 +98,7 @@ item_weight parts (y ∷ xs) zero x e =
     omega arith
 item_weight parts (y ∷ xs) (suc i) x e = let h = item_weight parts xs i x e in omega arith
 
-read_at : {A : Type 0} (xs : List A) (i : ℕ) (x : A) → i < length xs → x ≡ slice_index_or xs i x → Some x ≡ slice_get xs i
+pub read_at : {A : Type 0} (xs : List A) (i : ℕ) (x : A) → i < length xs → x ≡ slice_index_or xs i x → Some x ≡ slice_get xs i
 read_at [] i x early is = absurd (omega arith)
 read_at (y ∷ xs) zero x early is = ap Some is
 read_at (y ∷ xs) (suc i) x early is = read_at xs i x (omega arith) is

@@ -15,6 +15,7 @@ mod SameLists
 pub mod CertFacts
 pub mod Falling
 pub mod Meanings
+pub mod Descending
 pub mod Transfer
 pub mod Picking
 pub mod Staging

@@ -1,5 +1,5 @@
 -- What the terms of a chain mean, and two terms compared argument by argument.
-use Rattle.std.proofs.Common.{◌≡◌, ℕ, zero, suc, ◌+◌, ◌<◌, ◌≤◌, ◌↔◌, ◌⊎◌, inl, inr, List, [], ◌∷◌, ◌++◌, length, map, take, drop, Bool, true, false, true≢false, IsTrue, Option, Some, None, option_map, slice_get, slice_index_or, sym, refl, ap, ap₂, ◌∙◌, subst, arith}
+use Rattle.std.proofs.Common.{◌≡◌, ℕ, zero, suc, ◌+◌, ◌<◌, ◌≤◌, ◌↔◌, ◌⊎◌, inl, inr, List, [], ◌∷◌, ◌++◌, length, map, take, Bool, true, false, true≢false, IsTrue, Some, None, slice_get, slice_index_or, sym, refl, ap, ap₂, ◌∙◌, arith}
 use denote.Bor.{Bor}
 use Rattle.law_sig.specs.Trees.{substituted}
 use Rattle.law_sig.specs.declared.tree.SymId.{SymId}
@@ -13,8 +13,7 @@ use Rattle.law_check.specs.declared.term.Term.TheOpen as t
 use Rattle.law_check.specs.declared.term.Term.TheVariants.{Under, Over, rolls-Under, rolls-Over}
 use Rattle.law_check.specs.declared.term.Term.TheFolds.{fold-roll-Term}
 use Rattle.law_check.specs.Terms.{meaning, meaning_step, IsVariable}
-use Rattle.law_check.specs.Replaying.{IsReplaced}
-use Rattle.law_check.proofs.Replacing.{Below, inverted, done, outside, stuck, within}
+use Rattle.law_check.proofs.Replacing.{Below, inverted, outside}
 
 pub means-Under : (term : Term) (side : Bor Tree) (binds : Bor (List Bind)) → term ≡ Under side binds → meaning term ≡ substituted (bound_in binds.now) side.now
 means-Under term side binds is = ap meaning (is ∙ sym (rolls-Under side binds)) ∙ fold-roll-Term Tree meaning_step (t.Under side binds)
@@ -24,7 +23,7 @@ means-Over term f args is = ap meaning (is ∙ sym (rolls-Over f args)) ∙ fold
 
 -- Lists beside one another
 
-taken_more : {A : Type 0} (xs : List A) (i : ℕ) (x : A) → i < length xs → x ≡ slice_index_or xs i x → take (i + 1) xs ≡ take i xs ++ x ∷ []
+pub taken_more : {A : Type 0} (xs : List A) (i : ℕ) (x : A) → i < length xs → x ≡ slice_index_or xs i x → take (i + 1) xs ≡ take i xs ++ x ∷ []
 taken_more [] i x early is = absurd (omega arith)
 taken_more (y ∷ xs) zero x early is = ap (λ z. z ∷ []) (sym is)
 taken_more (y ∷ xs) (suc i) x early is =
@@ -41,11 +40,11 @@ map_last : {A B : Type 0} (h : A → B) (xs : List A) (x : A) → map h (xs ++ x
 map_last h [] x = refl
 map_last h (y ∷ xs) x = ap (λ l. h y ∷ l) (map_last h xs x)
 
-length_map : {A B : Type 0} (h : A → B) (xs : List A) → length (map h xs) ≡ length xs
+pub length_map : {A B : Type 0} (h : A → B) (xs : List A) → length (map h xs) ≡ length xs
 length_map h [] = refl
 length_map h (x ∷ xs) = ap suc (length_map h xs)
 
-item_of : {A B : Type 0} (h : A → B) (xs : List A) (i : ℕ) (x : A) → i < length xs → x ≡ slice_index_or xs i x → slice_get (map h xs) i ≡ Some (h x)
+pub item_of : {A B : Type 0} (h : A → B) (xs : List A) (i : ℕ) (x : A) → i < length xs → x ≡ slice_index_or xs i x → slice_get (map h xs) i ≡ Some (h x)
 item_of h [] i x early is = absurd (omega arith)
 item_of h (y ∷ xs) zero x early is = ap (λ z. Some (h z)) (sym is)
 item_of h (y ∷ xs) (suc i) x early is = item_of h xs i x (omega arith) is
@@ -102,24 +101,11 @@ told_by r s s' u e h = (λ x. e ∙ h.0 x, λ k. h.1 (sym e ∙ k))
 
 -- One argument replaced
 
-none_of : {A B : Type 0} (h : A → B) (xs : List A) (i : ℕ) → length xs ≤ i → slice_get (map h xs) i ≡ None
+pub none_of : {A B : Type 0} (h : A → B) (xs : List A) (i : ℕ) → length xs ≤ i → slice_get (map h xs) i ≡ None
 none_of h [] zero late = refl
 none_of h [] (suc i) late = refl
 none_of h (x ∷ xs) zero late = absurd (omega arith)
 none_of h (x ∷ xs) (suc i) late = none_of h xs i (omega arith)
-
-none_dropped : {A : Type 0} (n : ℕ) → drop {A = A} n [] ≡ []
-none_dropped zero = refl
-none_dropped (suc n) = refl
-
-slot : {A B : Type 0} (h : A → B) (xs : List A) (i : ℕ) (x : A) → map h ((take i xs ++ x ∷ []) ++ drop (i + 1) xs) ≡ (take i (map h xs) ++ h x ∷ []) ++ drop (i + 1) (map h xs)
-slot h [] zero x = refl
-slot h [] (suc i) x = ap (λ l. map h (x ∷ l)) (none_dropped (suc i + 1)) ∙ ap (λ l. h x ∷ l) (sym (none_dropped (suc i + 1)))
-slot h (y ∷ xs) zero x = refl
-slot h (y ∷ xs) (suc i) x =
-    let up : suc i + 1 ≡ suc (i + 1) = omega arith in
-    ap (λ n. map h (y ∷ ((take i xs ++ x ∷ []) ++ drop n (y ∷ xs)))) up ∙ ap (λ l. h y ∷ l) (slot h xs i x)
-    ∙ ap (λ n. h y ∷ ((take i (map h xs) ++ h x ∷ []) ++ drop n (h y ∷ map h xs))) (sym up)
 
 module _ (from to : Tree) (place : List ℕ) (k : ℕ) (rest : List ℕ) (place_is : place ≡ k ∷ rest) where
   -- a variable has no place below it
@@ -133,24 +119,3 @@ module _ (from to : Tree) (place : List ℕ) (k : ℕ) (rest : List ℕ) (place_
   module _ (s : Tree) (f : SymId) (args : List Term) (is : s ≡ App f (map meaning args)) where
     pub past_all : length args ≤ k → (u : Tree) → Rewrites from to place s u → ⊥
     past_all late = outside from to place k rest s f (map meaning args) (record { place_is = place_is; term_is = is }) (none_of meaning args k late)
-
-    pub stuck_below : (x : Term) → k < length args → x ≡ slice_index_or args k x → (found : Option Term) → found ≡ None
-        → IsReplaced from to rest (meaning x) (option_map meaning found) → (u : Tree) → Rewrites from to place s u → ⊥
-    stuck_below x early at found none never =
-        stuck from to place k rest s f (map meaning args) (meaning x) (record { place_is = place_is; term_is = is }) (item_of meaning args k x early at)
-        (subst (λ o. IsReplaced from to rest (meaning x) (option_map meaning o)) none never)
-
-    pub within_args : (x new : Term) (made : Bor (List Term)) (found : Option Term) → k < length args → x ≡ slice_index_or args k x → found ≡ Some new
-        → IsReplaced from to rest (meaning x) (option_map meaning found) → made.now ≡ (take k args ++ new ∷ []) ++ drop (k + 1) args
-        → Rewrites from to place s (meaning (Over f made))
-    within_args x new made found early at some inner made_is =
-        subst (Rewrites from to place s) (sym (means-Over (Over f made) f made refl))
-        (within from to place k rest s f (map meaning args) (meaning x) (meaning new) (map meaning made.now) (record { place_is = place_is; term_is = is })
-        (item_of meaning args k x early at) (subst (λ o. IsReplaced from to rest (meaning x) (option_map meaning o)) some inner)
-        (ap (map meaning) made_is ∙ slot meaning args k new))
-
--- at the root
-pub replaced_root : (from to s : Tree) (place : List ℕ) (side : Bor Tree) (binds : Bor (List Bind)) → length place ≡ 0 → s ≡ from
-    → to ≡ substituted (bound_in binds.now) side.now → Rewrites from to place s (meaning (Under side binds))
-replaced_root from to s place side binds empty is leads =
-    subst (Rewrites from to place s) (leads ∙ sym (means-Under (Under side binds) side binds refl)) (done from to s place empty is)

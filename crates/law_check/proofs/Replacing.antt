@@ -68,13 +68,13 @@ pub record Walked (place : List ℕ) (k : ℕ) (rest : List ℕ) (t : Tree) (f :
   pub term_is : t ≡ App f args
 
 -- the argument in which a replacement goes on
-record GoesOn (from to : Tree) (k : ℕ) (rest : List ℕ) (args : List Tree) : Type 0 where
-  old : Tree
-  new : Tree
-  found : slice_get args k ≡ Some old
-  inner : Rewrites from to rest old new
+pub record GoesOn (from to : Tree) (k : ℕ) (rest : List ℕ) (args : List Tree) : Type 0 where
+  pub old : Tree
+  pub new : Tree
+  pub found : slice_get args k ≡ Some old
+  pub inner : Rewrites from to rest old new
 
-goes_on : (from to : Tree) (place : List ℕ) (k : ℕ) (rest : List ℕ) (t u : Tree) (f : SymId) (args : List Tree)
+pub goes_on : (from to : Tree) (place : List ℕ) (k : ℕ) (rest : List ℕ) (t u : Tree) (f : SymId) (args : List Tree)
     → Walked place k rest t f args → Rewrites from to place t u → GoesOn from to k rest args
 goes_on from to place k rest t u f args w h = by (inverted h)
   where
@@ -98,28 +98,3 @@ pub outside : (from to : Tree) (place : List ℕ) (k : ℕ) (rest : List ℕ) (t
 outside from to place k rest t f args w none u h =
     let g = goes_on from to place k rest t u f args w h in
     cc (sym none ∙ g.found)
-
--- nothing is replaced in the argument there
-pub stuck : (from to : Tree) (place : List ℕ) (k : ℕ) (rest : List ℕ) (t : Tree) (f : SymId) (args : List Tree) (arg : Tree)
-    → Walked place k rest t f args → slice_get args k ≡ Some arg → ((v : Tree) → Rewrites from to rest arg v → ⊥)
-    → (u : Tree) → Rewrites from to place t u → ⊥
-stuck from to place k rest t f args arg w found never u h =
-    let g = goes_on from to place k rest t u f args w h in
-    let same : g.old ≡ arg = cc (sym g.found ∙ found) in
-    never g.new (subst (λ s. Rewrites from to rest s g.new) same g.inner)
-
--- the argument there is replaced
-pub within : (from to : Tree) (place : List ℕ) (k : ℕ) (rest : List ℕ) (t : Tree) (f : SymId) (args : List Tree) (arg new : Tree) (made : List Tree)
-    → Walked place k rest t f args → slice_get args k ≡ Some arg → Rewrites from to rest arg new
-    → made ≡ (take k args ++ new ∷ []) ++ drop (k + 1) args → Rewrites from to place t (App f made)
-within from to place k rest t f args arg new made w found inner is =
-    let r = around args k arg found in
-    subst (λ u. Rewrites from to place t (App f u)) (sym (is ∙ joined (take k args)))
-    (subst (λ s. Rewrites from to place s (App f (take k args ++ new ∷ drop (k + 1) args))) (ap (App f) (sym r.whole) ∙ sym w.term_is)
-    (subst (λ p. Rewrites from to p (App f (take k args ++ arg ∷ drop (k + 1) args)) (App f (take k args ++ new ∷ drop (k + 1) args)))
-    (ap (λ n. n ∷ rest) r.place ∙ sym w.place_is)
-    (below f (take k args) (drop (k + 1) args) rest arg new inner)))
-  where
-    joined : (xs : List Tree) → (xs ++ new ∷ []) ++ drop (k + 1) args ≡ xs ++ new ∷ drop (k + 1) args
-    joined [] = refl
-    joined (x ∷ xs) = ap (λ l. x ∷ l) (joined xs)

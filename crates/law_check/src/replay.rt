@@ -127,10 +127,10 @@ fn rises(binds: &[Bind]) -> bool
 fn are_binds(sig: &Sig, q: &Equation, binds: &[Bind]) -> bool
     ensures { IsTrue result ↔ AreBinds sig.now q.now binds.now }
 {
-    if !all_fit(sig, q, binds) {
+    if !rises(binds) {
         return false;
     }
-    if !rises(binds) {
+    if !all_fit(sig, q, binds) {
         return false;
     }
     if !is_covered(&q.left, binds) {
@@ -151,6 +151,7 @@ fn equation(known: &[Equation], number: u64) -> Option<&Equation>
 
 /// The term that a step leads to; `None` exactly where it leads to none.
 fn step<'a>(
+    alloc: Global,
     arena: &'a Bump<Global>,
     sig: &Sig,
     known: &'a [Equation],
@@ -167,7 +168,15 @@ fn step<'a>(
         return Ok(None);
     }
     let place = step.place.as_slice();
-    let found = replaced(arena, term, place, binds, start(step, q), end(step, q))?;
+    let found = replaced(
+        alloc,
+        arena,
+        term,
+        place,
+        binds,
+        start(step, q),
+        end(step, q),
+    )?;
     Ok(found)
 }
 
@@ -185,7 +194,7 @@ pub fn replays(
     let arena = Bump::new(alloc);
     let mut current = Term::Whole(from);
     for next in steps {
-        let Some(found) = step(&arena, sig, known, next, current)? else {
+        let Some(found) = step(alloc, &arena, sig, known, next, current)? else {
             return Ok(false);
         };
         current = found;

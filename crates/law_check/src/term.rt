@@ -2,7 +2,8 @@ ghost use Rattle.std.specs.Prelude.{◌≡◌, ◌↔◌, ◌<◌, ◌+◌, [], 
 ghost use Rattle.law_sig.specs.Trees.{substituted};
 ghost use Rattle.law_sig.specs.declared.tree.Tree.TheVariants.{App, Var};
 ghost use Rattle.law_valid.specs.Chains.{bound_in};
-ghost use Rattle.law_check.specs.Terms.{meaning, IsVariable, IsOpened};
+ghost use Rattle.law_check.specs.Terms.{meaning, IsVariable, IsOpened, IsFrame, wrapped, IsReached};
+ghost use Rattle.law_sig.specs.Lists.{Each};
 ghost use Rattle.law_check.specs.Replaying.{IsReplaced};
 
 use bumpalo::Bump;
@@ -31,6 +32,21 @@ pub struct Row<'a> {
 pub struct Opened<'a> {
     pub head: SymId,
     pub args: &'a [Term<'a>],
+}
+
+/// A symbol over terms, and the place of one of them.
+#[derive(Clone, Copy)]
+struct Frame<'a> {
+    head: SymId,
+    args: &'a [Term<'a>],
+    at: usize,
+}
+
+/// What stands at a place of a term, and what stands above it, from the root down.
+#[derive(Drop)]
+struct Path<'a> {
+    frames: Vec<Frame<'a>>,
+    term: Term<'a>,
 }
 
 /// The term that is given for a variable, where there is one.
@@ -300,9 +316,60 @@ fn open<'a>(arena: &'a Bump<Global>, term: Term<'a>) -> Result<Option<Opened<'a>
     }
 }
 
+/// What stands at a place of a term, with what stands above it; `None` exactly where the term has no such place. It takes the
+/// machine's stack for no depth of the place.
+fn descend<'a>(
+    alloc: Global,
+    arena: &'a Bump<Global>,
+    term: Term<'a>,
+    place: &[u32],
+) -> Result<Option<Path<'a>>, NoMemory>
+    ensures { IfOk result (IsReached (meaning term.entry) place.now) }
+{
+    let mut frames = Vec::new(alloc);
+    let mut here = term;
+    for number in place {
+        let Some(opened) = open(arena, here)? else {
+            return Ok(None);
+        };
+        let at = *number as usize;
+        if at >= opened.args.len() {
+            return Ok(None);
+        }
+        let Ok(()) = frames.push(Frame {
+            head: opened.head,
+            args: opened.args,
+            at,
+        }) else {
+            return Err(NoMemory);
+        };
+        here = opened.args[at];
+    }
+    Ok(Some(Path { frames, term: here }))
+}
+
+/// A term with what stands above it.
+fn ascend<'a>(
+    arena: &'a Bump<Global>,
+    frames: &[Frame<'a>],
+    term: Term<'a>,
+) -> Result<Term<'a>, NoMemory>
+    requires { Each IsFrame frames.now }
+    ensures { IfOk result (λ made. meaning made ≡ wrapped frames.now (meaning term.entry)) }
+{
+    let mut made = term;
+    for done in 0..frames.len() {
+        let frame = frames[frames.len() - 1 - done];
+        let row = with_term(arena, frame.args, frame.at, made)?;
+        made = Term::Over(frame.head, row.items);
+    }
+    Ok(made)
+}
+
 /// The term with one side of an equation replaced by the other at a place; `None` exactly where the first side's instance
 /// doesn't stand there.
 pub fn replaced<'a>(
+    alloc: Global,
     arena: &'a Bump<Global>,
     term: Term<'a>,
     place: &[u32],
@@ -312,22 +379,12 @@ pub fn replaced<'a>(
 ) -> Result<Option<Term<'a>>, NoMemory>
     ensures { IfOk result (λ found. IsReplaced (substituted (bound_in binds.now) from.now) (substituted (bound_in binds.now) to.now) place.now (meaning term.entry) (option_map meaning found)) }
 {
-    let Some((first, rest)) = place.split_first() else {
-        if matches(from, binds, term) {
-            return Ok(Some(Term::Under(to, binds)));
-        }
+    let Some(path) = descend(alloc, arena, term, place)? else {
         return Ok(None);
     };
-    let Some(opened) = open(arena, term)? else {
-        return Ok(None);
-    };
-    let at = *first as usize;
-    if at >= opened.args.len() {
+    if !matches(from, binds, path.term) {
         return Ok(None);
     }
-    let Some(new) = replaced(arena, opened.args[at], rest, binds, from, to)? else {
-        return Ok(None);
-    };
-    let row = with_term(arena, opened.args, at, new)?;
-    Ok(Some(Term::Over(opened.head, row.items)))
+    let made = ascend(arena, path.frames.as_slice(), Term::Under(to, binds))?;
+    Ok(Some(made))
 }
