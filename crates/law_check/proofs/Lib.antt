@@ -5,4 +5,5 @@ pub mod Staging
 pub mod Symbols
 pub mod Seeking
 pub mod Storing
+pub mod Items
 pub mod Instancing

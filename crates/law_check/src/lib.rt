@@ -4,6 +4,7 @@
 
 mod agenda;
 mod candidates;
+mod closing;
 mod instances;
 mod rows;
 mod shelves;
