@@ -22,6 +22,7 @@ pub mod Staging
 pub mod Symbols
 pub mod Seeking
 pub mod Storing
+pub mod Items
 pub mod Instancing
 pub mod LineFacts
 pub mod Numbering

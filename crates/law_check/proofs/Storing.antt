@@ -37,12 +37,12 @@ use Rattle.law_check.proofs.Symbols.{considered_schema}
 
 -- Lists
 
-past_end : {A : Type 0} (xs : List A) (n : ℕ) (d : A) → length xs ≤ n → slice_index_or xs n d ≡ d
+pub past_end : {A : Type 0} (xs : List A) (n : ℕ) (d : A) → length xs ≤ n → slice_index_or xs n d ≡ d
 past_end [] n d past = refl
 past_end (x ∷ xs) zero d past = absurd (omega arith)
 past_end (x ∷ xs) (suc n) d past = past_end xs n d (omega arith)
 
-longer : {A : Type 0} (xs : List A) (x : A) → length (xs ++ x ∷ []) ≡ suc (length xs)
+pub longer : {A : Type 0} (xs : List A) (x : A) → length (xs ++ x ∷ []) ≡ suc (length xs)
 longer [] x = refl
 longer (y ∷ xs) x = ap suc (longer xs x)
 
@@ -101,11 +101,11 @@ heads parts s = tree_cases (λ t. (sort : SortId) → sort_of parts t ≡ Some s
     let a = sorted_app parts f args sort e in
     ap (heads_sort parts s) (outs-App f args) ∙ ap (gives_sort s) a.declared ∙ ap (λ z. same_sort z s) a.result)
 
-rows_long : (parts : SigParts) (level : List Spread) (n : ℕ) → length (sorted_out parts level n) ≡ n
+pub rows_long : (parts : SigParts) (level : List Spread) (n : ℕ) → length (sorted_out parts level n) ≡ n
 rows_long parts level zero = refl
 rows_long parts level (suc n) = longer (sorted_out parts level n) _ ∙ ap suc (rows_long parts level n)
 
-row_at : (parts : SigParts) (level : List Spread) (n : ℕ) (s : SortId) → s.0 < n → slice_index_or (sorted_out parts level n) s.0 [] ≡ filter (is_of_sort parts s) level
+pub row_at : (parts : SigParts) (level : List Spread) (n : ℕ) (s : SortId) → s.0 < n → slice_index_or (sorted_out parts level n) s.0 [] ≡ filter (is_of_sort parts s) level
 row_at parts level zero s less = absurd (omega arith)
 row_at parts level (suc n) s less =
     let upto : s.0 ≤ n = omega arith in
@@ -119,7 +119,7 @@ row_at parts level (suc n) s less =
     by rest (inl e) = at_end (sorted_out parts level n) (filter (is_of_sort parts (record { 0 = n })) level) s.0 [] (e ∙ sym (rows_long parts level n)) ∙ ap (λ k. filter (is_of_sort parts (id k)) level) (sym e)
     by rest (inr l) = let h = rows_long parts level n in at_kept (sorted_out parts level n) (filter (is_of_sort parts (record { 0 = n })) level ∷ []) s.0 [] (omega arith) ∙ rest l
 
-row_past : (parts : SigParts) (level : List Spread) (n : ℕ) (s : SortId) → n ≤ s.0 → slice_index_or (sorted_out parts level n) s.0 [] ≡ []
+pub row_past : (parts : SigParts) (level : List Spread) (n : ℕ) (s : SortId) → n ≤ s.0 → slice_index_or (sorted_out parts level n) s.0 [] ≡ []
 row_past parts level n s past = past_end (sorted_out parts level n) s.0 [] (let h = rows_long parts level n in omega arith)
 
 -- The next weight

@@ -8,6 +8,7 @@ mod check;
 mod counts;
 mod entries;
 mod groups;
+mod closing;
 mod instances;
 mod judge;
 mod lines;

@@ -5,7 +5,7 @@ ghost use Rattle.law_valid.specs.Schemas.{IsConsidered};
 ghost use Rattle.law_check.specs.Candidates.{IsCandidate, FirstOf, NextOf};
 ghost use Rattle.law_check.specs.Shelves.{sorted_out};
 ghost use Rattle.law_check.specs.Stages.{Onward};
-ghost use Rattle.law_check.specs.Stores.{IsStore, FirstVar, IsFitting};
+ghost use Rattle.law_check.specs.Stores.{IsStore, FirstVar, IsFitting, HasNoOther};
 
 use super::candidates::{first_from_symbol, next_of_symbol, vars_at, Candidate};
 use super::shelves::{sorted_out, Spread};
@@ -32,6 +32,7 @@ fn heavier(alloc: Global, sig: &Sig, store: Store) -> Result<Store, NoMemory>
     ensures weight { IfOk result (λ s. s.weight ≡ min (store.weight + 1) (2 ^ 32 - 1)) }
     ensures level { IfOk result (λ s. s.level ≡ []) }
     ensures shelf { IfOk result (λ s. s.shelf ≡ store.shelf ++ sorted_out sig.now store.level (length sig.now.sort_names) ∷ []) }
+    ensures items { IfOk result (HasNoOther store) }
 {
     let mut shelf = store.shelf;
     shelf.push(sorted_out(alloc, sig, store.level.as_slice())?)?;
@@ -44,7 +45,8 @@ fn heavier(alloc: Global, sig: &Sig, store: Store) -> Result<Store, NoMemory>
 
 /// The first application of the weight at hand from a symbol on, or of a greater weight.
 fn first_application(alloc: Global, sig: &Sig, store: Store, from: u32) -> Result<Found, NoMemory>
-    ensures { IfOk result (λ r. (spreads : List Tree) → IsStore sig.now spreads store
+    ensures items { IfOk result (λ r. HasNoOther store r.store) }
+    ensures first { IfOk result (λ r. (spreads : List Tree) → IsStore sig.now spreads store
         → IsStore sig.now spreads r.store × FirstOf sig.now r.store.shelf r.store.weight (Onward sig.now (IsConsidered sig.now spreads) store.weight 1 from) r.next) }
 {
     match first_from_symbol(alloc, sig, store.shelf.as_slice(), store.weight, from)? {
@@ -74,7 +76,8 @@ fn first_var(sig: &Sig, from: u32) -> Option<SortId>
 
 /// The first variable from a sort on, or the first application.
 pub fn first_schema(alloc: Global, sig: &Sig, store: Store, from: u32) -> Result<Found, NoMemory>
-    ensures { IfOk result (λ r. (spreads : List Tree) → IsStore sig.now spreads store → store.weight ≡ 1
+    ensures items { IfOk result (λ r. HasNoOther store r.store) }
+    ensures first { IfOk result (λ r. (spreads : List Tree) → IsStore sig.now spreads store → store.weight ≡ 1
         → IsStore sig.now spreads r.store × FirstOf sig.now r.store.shelf r.store.weight (Onward sig.now (IsConsidered sig.now spreads) 1 0 from) r.next) }
 {
     match first_var(sig, from) {
@@ -85,7 +88,8 @@ pub fn first_schema(alloc: Global, sig: &Sig, store: Store, from: u32) -> Result
 
 /// The schema that comes after this one.
 pub fn next_schema(alloc: Global, sig: &Sig, store: Store, last: Candidate) -> Result<Found, NoMemory>
-    ensures { IfOk result (λ r. (spreads : List Tree) (t : Tree) → IsStore sig.now spreads store → IsCandidate sig.now store.shelf store.weight last t → IsConsidered sig.now spreads t → IsFitting store last
+    ensures items { IfOk result (λ r. HasNoOther store r.store) }
+    ensures next { IfOk result (λ r. (spreads : List Tree) (t : Tree) → IsStore sig.now spreads store → IsCandidate sig.now store.shelf store.weight last t → IsConsidered sig.now spreads t → IsFitting store last
         → IsStore sig.now spreads r.store × NextOf sig.now r.store.shelf r.store.weight (IsConsidered sig.now spreads) t r.next) }
 {
     match last {

@@ -5,16 +5,16 @@ use Rattle.law_check.proofs.Seeking.{none_case}
 use Rattle.law_check.proofs.Storing.{application_none, application_heavier, if_ok}
 use Rattle.law_check.proofs.stores.+first_application.Goals as goal
 
-pub returns-then-store-settings : goal.returns-then-store-settings
-returns-then-store-settings t c = λ spreads is.
+pub returns-then-store-settings-clause-first : goal.returns-then-store-settings-clause-first
+returns-then-store-settings-clause-first t c = λ spreads is.
     let e = ap (λ (s : Settings). s.size) c.settings.ensures.settings in
     let h = c.if-store-settings.true in
     let past : c.args.sig.now.settings.size ≤ c.args.store.weight = omega arith in
     application_none c.args.sig.now spreads c.args.store c.args.from is
     (none_case _ _ c.in_ok-found.field-0 c.in-None.is (c.in_ok-found.ensures spreads (subst (λ l. IsStock c.args.sig.now spreads l c.args.store.weight) (sym c.as_slice.ensures) is.stock))) past
 
-pub returns-in_ok-more-in-None : goal.returns-in_ok-more-in-None
-returns-in_ok-more-in-None t c = if_ok _ _ c.first_application.result
+pub returns-in_ok-more-in-None-clause-first : goal.returns-in_ok-more-in-None-clause-first
+returns-in_ok-more-in-None-clause-first t c = if_ok _ _ c.first_application.result
     (λ r go spreads is.
     let e = ap (λ (s : Settings). s.size) c.settings.ensures.settings in
     let h = c.if-store-settings.false in
@@ -22,4 +22,4 @@ returns-in_ok-more-in-None t c = if_ok _ _ c.first_application.result
     application_heavier c.args.sig.now spreads c.args.store c.in_ok-more-in-None.more c.args.from r.store r.next is
     (none_case _ _ c.in_ok-found.field-0 c.in-None.is (c.in_ok-found.ensures spreads (subst (λ l. IsStock c.args.sig.now spreads l c.args.store.weight) (sym c.as_slice.ensures) is.stock))) less
     c.in_ok-more-in-None.ensures.weight c.in_ok-more-in-None.ensures.level c.in_ok-more-in-None.ensures.shelf (go spreads))
-    c.first_application.ensures
+    c.first_application.ensures.first

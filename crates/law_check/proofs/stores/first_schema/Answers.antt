@@ -7,8 +7,8 @@ use Rattle.law_check.proofs.Seeking.{some_case, none_case}
 use Rattle.law_check.proofs.Storing.{first_var_is, no_vars, all_later, first_changed, if_ok}
 use Rattle.law_check.proofs.stores.first_schema.Goals as goal
 
-pub returns-in-Some : goal.returns-in-Some
-returns-in-Some c = λ spreads is one. (
+pub returns-in-Some-clause-first : goal.returns-in-Some-clause-first
+returns-in-Some-clause-first c = λ spreads is one. (
   is,
   (
     Var c.in-Some.sort 0,
@@ -17,8 +17,8 @@ returns-in-Some c = λ spreads is one. (
   ),
 )
 
-pub returns-in-None : goal.returns-in-None
-returns-in-None c = if_ok _ _ c.first_application.result
+pub returns-in-None-clause-first : goal.returns-in-None-clause-first
+returns-in-None-clause-first c = if_ok _ _ c.first_application.result
     (λ r go spreads is one.
     let h = go spreads is in
     (
@@ -28,4 +28,4 @@ returns-in-None c = if_ok _ _ c.first_application.result
           (no_vars c.args.sig.now spreads is.stock.schemas c.args.from (none_case _ _ c.first_var.result c.in-None.is c.first_var.ensures))
           (subst (λ n. FirstOf c.args.sig.now r.store.shelf r.store.weight (Onward c.args.sig.now (IsConsidered c.args.sig.now spreads) n 1 0) r.next) one h.1),
     ))
-    c.first_application.ensures
+    c.first_application.ensures.first

@@ -7,8 +7,8 @@ use Rattle.law_check.proofs.Seeking.{here_of}
 use Rattle.law_check.proofs.Storing.{next_var, next_at, next_from, var_declared, added, if_ok}
 use Rattle.law_check.proofs.stores.next_schema.Goals as goal
 
-pub returns-in-Var : goal.returns-in-Var
-returns-in-Var c = if_ok _ _ c.first_schema.result
+pub returns-in-Var-clause-next : goal.returns-in-Var-clause-next
+returns-in-Var-clause-next c = if_ok _ _ c.first_schema.result
     (λ r go spreads t is cand considered fits.
     let e = subst (λ z. IsCandidate c.args.sig.now c.args.store.shelf c.args.store.weight z t) c.in-Var.is cand in
     let one = subst (IsFitting c.args.store) c.in-Var.is fits in
@@ -22,10 +22,10 @@ returns-in-Var c = if_ok _ _ c.first_schema.result
       next_var c.args.sig.now spreads is.stock.schemas r.store.shelf r.store.weight c.in-Var.sort t r.next e considered
           (subst (λ n. FirstOf c.args.sig.now r.store.shelf r.store.weight (Onward c.args.sig.now (IsConsidered c.args.sig.now spreads) 1 0 n) r.next) next h.1),
     ))
-    c.first_schema.ensures
+    c.first_schema.ensures.first
 
-pub returns-in-Some : goal.returns-in-Some
-returns-in-Some c = λ spreads t is cand considered fits.
+pub returns-in-Some-clause-next : goal.returns-in-Some-clause-next
+returns-in-Some-clause-next c = λ spreads t is cand considered fits.
     let a : IsApplication c.args.sig.now c.args.store.shelf c.args.store.weight c.in-App.sym c.in-App.walk t =
         subst (λ z. IsCandidate c.args.sig.now c.args.store.shelf c.args.store.weight z t) c.in-App.is cand in
     let h = here_of c.args.sig.now spreads c.args.store.shelf c.args.store.weight is.stock c.in-App.sym c.in-App.walk t a in
@@ -36,8 +36,8 @@ returns-in-Some c = λ spreads t is cand considered fits.
           (c.in_ok-next-in-App.ensures c.args.sig.now spreads c.args.store.shelf c.args.store.weight t is.stock a)),
     )
 
-pub returns-in-None : goal.returns-in-None
-returns-in-None c = if_ok _ _ c.first_application.result
+pub returns-in-None-clause-next : goal.returns-in-None-clause-next
+returns-in-None-clause-next c = if_ok _ _ c.first_application.result
     (λ r go spreads t is cand considered fits.
     let a : IsApplication c.args.sig.now c.args.store.shelf c.args.store.weight c.in-App.sym c.in-App.walk t =
         subst (λ z. IsCandidate c.args.sig.now c.args.store.shelf c.args.store.weight z t) c.in-App.is cand in
@@ -54,4 +54,4 @@ returns-in-None c = if_ok _ _ c.first_application.result
           (c.in_ok-next-in-App.ensures c.args.sig.now spreads c.args.store.shelf c.args.store.weight t is.stock a))
           (subst (λ n. FirstOf c.args.sig.now r.store.shelf r.store.weight (Onward c.args.sig.now (IsConsidered c.args.sig.now spreads) c.args.store.weight 1 n) r.next) next h.1),
     ))
-    c.first_application.ensures
+    c.first_application.ensures.first
