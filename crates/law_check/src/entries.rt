@@ -11,7 +11,7 @@ use crate::agenda::Agenda;
 use crate::names::Names;
 use crate::rules::{is_killed, is_lemma, is_moved};
 use crate::terms::{Universe, schema};
-use crate::trees::judge_trees;
+use crate::forest::judge_trees;
 use crate::values::{agree, is_yes};
 use law_cert::{Entry as Written, SortTree};
 use law_sig::{Equation, NoMemory, Seq, Sig, SortId, Tree};

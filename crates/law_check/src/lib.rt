@@ -25,7 +25,6 @@ mod term;
 mod terms;
 #[cfg(test)]
 mod tests;
-mod trees;
 mod values;
 mod verdict;
 mod walks;
