@@ -1,8 +1,12 @@
 pub mod Agreeing
+pub mod Forested
+pub mod Foresting
 pub mod Goes
 pub mod LineFacts
 pub mod Numbering
 pub mod Onces
+pub mod Planting
 pub mod Taking
 pub mod Telling
+pub mod Treeing
 pub mod Valuing

@@ -2,10 +2,12 @@
 //! of how a certificate is made.
 #![tactic(auto)]
 
+mod forest;
 mod groups;
 mod lines;
 mod once;
 mod splits;
+mod trees;
 mod values;
 mod verdict;
 mod verify;
