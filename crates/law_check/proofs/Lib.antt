@@ -6,6 +6,9 @@ pub mod Stepping
 pub mod StepFacts
 pub mod AnswerFacts
 pub mod WalkFacts
+pub mod Agreeing
+pub mod Forested
+pub mod Foresting
 pub mod Goes
 pub mod Agreeing
 pub mod Counted
@@ -27,6 +30,8 @@ pub mod Instancing
 pub mod LineFacts
 pub mod Numbering
 pub mod Onces
+pub mod Planting
 pub mod Taking
 pub mod Telling
+pub mod Treeing
 pub mod Valuing

@@ -1,5 +1,5 @@
 -- What the lines of a tree say of it.
-use Rattle.std.proofs.Common.{◌≡◌, ℕ, zero, suc, ◌+◌, ◌<◌, Bool, true, false, if◌then◌else◌, List, [], ◌∷◌, ◌++◌, map, length, sym, refl, ap, ap₂, ◌∙◌, subst, append-nil, append_assoc, arith}
+use Rattle.std.proofs.Common.{◌≡◌, ℕ, suc, ◌+◌, ◌<◌, Bool, true, false, if◌then◌else◌, List, [], ◌∷◌, ◌++◌, map, length, sym, refl, ap, ap₂, ◌∙◌, subst, append-nil, append_assoc, arith}
 use Rattle.std.proofs.lemmas.List.{length-map}
 use Rattle.law_sig.specs.Lists.{Each}
 use Rattle.law_sig.specs.Trees.{joined}
@@ -18,7 +18,7 @@ use Rattle.law_valid.specs.Judged.{Judging, Whole, whole, whole_step, of_term_cu
 use Rattle.law_valid.specs.Named.{term_lines, schema_lines}
 use Rattle.law_valid.proofs.Apart.{branch_induct, leaves-Leaf, leaves-Split, cuts-Leaf, cuts-Split, root_cut, map_twice, map_parts, joined_parts, each_left}
 use Rattle.law_valid.proofs.Reading.{term-Leaf, term-Split, schema-Leaf, schema-Split}
-use Rattle.law_valid.proofs.StatedFacts.{each_right}
+use Rattle.law_valid.proofs.StatedFacts.{each_right, each_both}
 use Rattle.law_check.specs.declared.lines.Part.{Part}
 use Rattle.law_check.specs.declared.lines.Part.TheVariants.{Schemas, Leaves, Tests}
 use Rattle.law_check.specs.Lines.{arity, HasKid, taken, behind, part_of, parts_of, kids_of, is_upper, along, upper_at, upper_tests, Held, held_at, held_in, judging, judging_at, judgings}
@@ -335,3 +335,31 @@ held_are t full = own held_in (schema_lines t) (map held_by (leaves_of t)) (sche
 
 pub judged_are : (spreads lives : List Tree) (t : Branch Class) → Each HasKid (schema_lines t) → judgings spreads lives (schema_lines t) ≡ (whole spreads lives t).cuts
 judged_are spreads lives t full = own (judgings spreads lives) (schema_lines t) (whole spreads lives t).cuts (schema_judged spreads lives t full []) refl
+
+parts_append : (part : Part) (xs ys : List TreeLine) → parts_of part (xs ++ ys) ≡ parts_of part xs ++ parts_of part ys
+parts_append part xs ys = ap joined (map_parts (part_of part) xs ys) ∙ joined_parts (map (part_of part) xs) (map (part_of part) ys)
+
+-- the tests of all lines are those above the classes and those below them
+module _ (P : ℕ → Type 0) where
+  abbrev BelowClass : Class → Type 0
+  BelowClass class = Each P (tests_of class.terms)
+
+  abbrev Tested : Branch Class → Type 0
+  Tested t = Each P (tests_of t) → Each BelowClass (leaves_of t) → Each P (parts_of Tests (schema_lines t))
+
+  kids_tested : (kids : List (Branch Class)) → Each Tested kids → Each P (joined (map tests_of kids)) → Each BelowClass (joined (map leaves_of kids))
+      → Each P (parts_of Tests (joined (map schema_lines kids)))
+  kids_tested [] have tests below = tt
+  kids_tested (k ∷ kids) have tests below =
+      subst (Each P) (sym (parts_append Tests (schema_lines k) (joined (map schema_lines kids))))
+      (each_both P (parts_of Tests (schema_lines k)) (parts_of Tests (joined (map schema_lines kids)))
+      (have.0 (each_left P (tests_of k) (joined (map tests_of kids)) tests) (each_left BelowClass (leaves_of k) (joined (map leaves_of kids)) below))
+      (kids_tested kids have.1 (each_right P (tests_of k) (joined (map tests_of kids)) tests) (each_right BelowClass (leaves_of k) (joined (map leaves_of kids)) below)))
+
+  pub schema_tests : (t : Branch Class) → Tested t
+  schema_tests = branch_induct Class Tested
+      (λ class tests below. subst (Each P) (sym (ap (parts_of Tests) (schema-Leaf class) ∙ term_tests class.terms)) (subst (Each BelowClass) (leaves-Leaf Class class) below).0)
+      (λ test kids have tests below.
+      let own = subst (Each P) (sym (tests-Split Class test kids)) tests in
+      subst (Each P) (sym (ap (parts_of Tests) (schema-Split test kids)))
+      (own.0, kids_tested kids have own.1 (subst (Each BelowClass) (leaves-Split Class test kids) below)))

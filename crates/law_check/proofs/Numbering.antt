@@ -1,7 +1,7 @@
 -- Numbers of the terms with a property, and groups of them.
-use Rattle.std.proofs.Common.{◌≡◌, ◌≢◌, ◌↔◌, ℕ, zero, suc, ◌+◌, ◌<◌, ◌≤◌, ◌==◌, ◌⊎◌, inl, inr, Bool, true, false, if◌then◌else◌, Option, Some, None, List, [], ◌∷◌, ◌++◌, length, take, slice_get, slice_index_or, sym, refl, ap, ◌∙◌, subst, arith, rules}
-use Rattle.std.proofs.lemmas.List.{take_all, length-take-le}
-use Rattle.law_sig.specs.Lists.{In, Each, AreDistinct}
+use Rattle.std.proofs.Common.{◌≡◌, ◌≢◌, ℕ, zero, suc, ◌+◌, ◌<◌, ◌⊎◌, inl, inr, Bool, true, false, if◌then◌else◌, Option, Some, None, MatchOption, List, [], ◌∷◌, ◌++◌, length, take, slice_get, slice_index_or, sym, refl, ap, ◌∙◌, subst, arith, rules}
+use Rattle.std.proofs.lemmas.List.{length-take-le}
+use Rattle.law_sig.specs.Lists.{In, AreDistinct}
 use Rattle.law_sig.specs.Lists.In.{here, there}
 use Rattle.law_sig.specs.Trees.{schema_of}
 use Rattle.law_sig.specs.declared.tree.Tree.{Tree}
@@ -126,3 +126,14 @@ groups_more spreads lives distinct at t c place old new less is of there_is adde
         subst (AreNumbers (take (at + 1) lives) (IsOfSchema spreads k)) (sym g)
         (numbers_kept (IsOfSchema spreads k) lives at t (group (old k)) less is
         (λ other. let key : place + 1 ≡ k = one_schema spreads distinct (place + 1) k t own other in let f : ⊥ = search rules in f) (are k))
+
+-- what a table says of a term
+pub place_is : (table spreads : List Tree) (c : Tree) (o : Option ℕ) (place : ℕ) → table ≡ spreads → o ≡ Some place
+    → MatchOption o (In c table → ⊥) (λ k. slice_get table k ≡ Some c) → slice_get spreads place ≡ Some c
+place_is table spreads c o place same is h =
+    subst (λ ts. slice_get ts place ≡ Some c) same (subst (λ p. MatchOption p (In c table → ⊥) (λ k. slice_get table k ≡ Some c)) is h)
+
+pub place_none : (table spreads : List Tree) (c : Tree) (o : Option ℕ) → table ≡ spreads → o ≡ None
+    → MatchOption o (In c table → ⊥) (λ k. slice_get table k ≡ Some c) → In c spreads → ⊥
+place_none table spreads c o same is h =
+    subst (λ ts. In c ts → ⊥) same (subst (λ p. MatchOption p (In c table → ⊥) (λ k. slice_get table k ≡ Some c)) is h)

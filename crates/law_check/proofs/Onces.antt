@@ -1,16 +1,15 @@
 -- Tables of numbers, and lists that have the same ones.
-use Rattle.std.proofs.Common.{◌≡◌, ◌≢◌, ◌↔◌, ℕ, zero, suc, ◌+◌, ◌<◌, ◌≤◌, ◌==◌, ◌⊎◌, inl, inr, Bool, true, false, IsTrue, IfOk, Ok, Err, Result, if◌then◌else◌, List, [], ◌∷◌, ◌++◌, length, take, drop, slice_index_or, sym, refl, ap, ◌∙◌, subst, append-nil, arith, rules}
+use Rattle.std.proofs.Common.{◌≡◌, ◌≢◌, ◌↔◌, ℕ, zero, suc, ◌+◌, ◌<◌, ◌≤◌, ◌==◌, ◌⊎◌, inl, inr, Bool, true, false, IsTrue, IfOk, Ok, Err, Result, if◌then◌else◌, List, [], ◌∷◌, ◌++◌, length, take, drop, slice_index_or, sym, refl, ap, ◌∙◌, subst, arith, rules}
 use Rattle.std.specs.List.{list_any}
 use Rattle.std.proofs.lemmas.List.{take_all, drop_more, take-append-drop}
-use Rattle.law_sig.specs.Lists.{In, Each, Rising, AreDistinct}
+use Rattle.law_sig.specs.Lists.{In, Each, AreDistinct}
 use Rattle.law_sig.specs.Lists.In.{here, there}
 use Rattle.law_laws.proofs.ListFacts.{in_none, in_split, in_left, in_right, in_rest, of_each, each_of}
 use Rattle.law_pool.proofs.Reading.{take_next}
 use Rattle.law_sig.specs.declared.seq.NoMemory.{NoMemory}
-use Rattle.law_valid.proofs.StatedFacts.{rising_at, rising_right, each_right, each_both, rising_both}
-use Rattle.law_valid.proofs.Apart.{each_left}
+use Rattle.law_valid.proofs.StatedFacts.{rising_at, each_right, each_both, rising_both}
 use Rattle.law_value.specs.declared.bank.ValueId.{ValueId}
-use Rattle.law_check.specs.Once.{HaveSame, AreOnce, AreAlike, heads, AreTold}
+use Rattle.law_check.specs.Once.{HaveSame, AreOnce, AreAlike}
 
 -- Membership, as it is computed
 
@@ -82,8 +81,11 @@ pub distinct_next : (ns : List ℕ) (at n : ℕ) (keys : List ℕ) → at < leng
     → list_any (λ m. n == m) keys ≡ false → AreDistinct (take (at + 1) ns)
 distinct_next ns at n keys less is same so_far fresh =
     subst AreDistinct (sym (take_next ns at n less is))
-    (rising_both ◌≢◌ (take at ns) (n ∷ []) so_far (tt, tt) (each_of (λ m. Each (λ k. m ≢ k) (n ∷ [])) (take at ns) (λ m i. (λ e.
-    let known = is_any n keys (subst (λ k. In k keys) e ((same m).1 i)) in cc, tt))))
+    (rising_both ◌≢◌ (take at ns) (n ∷ []) so_far (tt, tt) (each_of (λ m. Each (λ k. m ≢ k) (n ∷ [])) (take at ns) (λ m i. (
+      λ e.
+          let known = is_any n keys (subst (λ k. In k keys) e ((same m).1 i)) in cc,
+      tt,
+    ))))
 
 pub not_distinct : (ns : List ℕ) (at n : ℕ) (keys : List ℕ) → at < length ns → n ≡ slice_index_or ns at n → HaveSame keys (take at ns)
     → list_any (λ m. n == m) keys ≡ true → AreDistinct ns → ⊥

@@ -1,5 +1,5 @@
 -- Taking trees off lines, line by line.
-use Rattle.std.proofs.Common.{◌≡◌, ℕ, zero, suc, ◌+◌, ◌-◌, ◌<◌, ◌≤◌, ◌^◌, ◌⊎◌, inl, inr, min, List, [], ◌∷◌, ◌++◌, map, length, sym, refl, ap, ap₂, ◌∙◌, append_assoc, arith}
+use Rattle.std.proofs.Common.{◌≡◌, ℕ, zero, suc, ◌+◌, ◌-◌, ◌<◌, ◌≤◌, ◌^◌, inl, inr, min, List, [], ◌∷◌, ◌++◌, length, sym, refl, ap, ap₂, ◌∙◌, append_assoc, arith}
 use Rattle.std.proofs.lemmas.Bool.{cases_lt}
 use Rattle.law_cert.specs.declared.cert.TreeLine.{TreeLine}
 use Rattle.law_check.specs.declared.lines.Part.{Part}
@@ -26,8 +26,8 @@ same_taken : (more n : ℕ) (lines : List TreeLine) → length lines < 2 ^ 64 �
 same_taken more n lines fits cut = elim (cases_lt n (length lines)) [
   | inl less ↦ let is : more ≡ n = omega arith in (ap (λ k. taken k lines) is, ap (λ k. behind k lines) is)
   | inr end ↦
-    let long : length lines ≤ more = omega arith in
-    (taken_all more lines long ∙ sym (taken_all n lines end), behind_all more lines long ∙ sym (behind_all n lines end))
+      let long : length lines ≤ more = omega arith in
+      (taken_all more lines long ∙ sym (taken_all n lines end), behind_all more lines long ∙ sym (behind_all n lines end))
 ]
 
 pub tree_next : (part : Part) (owed less more : ℕ) (line : TreeLine) (lines rest : List TreeLine) (found next whole : List ℕ) (end : List TreeLine) → 0 < owed → less ≡ owed - 1
@@ -38,8 +38,8 @@ tree_next part (suc n) less more line lines rest found next whole end some one i
     let same = same_taken more (less + arity line) rest fits cut in
     let lower : less ≡ n = omega arith in (
       ap₂ (λ f l. f ++ parts_of part l) grows (same.0 ∙ ap (λ k. taken (k + arity line) rest) lower)
-      ∙ append_assoc found (part_of part line) (parts_of part (taken (n + arity line) rest))
-      ∙ ap (λ l. found ++ parts_of part (taken (suc n) l)) (sym is) ∙ parts,
+          ∙ append_assoc found (part_of part line) (parts_of part (taken (n + arity line) rest))
+          ∙ ap (λ l. found ++ parts_of part (taken (suc n) l)) (sym is) ∙ parts,
       same.1 ∙ ap (λ k. behind (k + arity line) rest) lower ∙ ap (behind (suc n)) (sym is) ∙ left,
     )
 

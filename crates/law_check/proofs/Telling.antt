@@ -1,5 +1,5 @@
 -- Values that tell lists of numbers apart.
-use Rattle.std.proofs.Common.{◌≡◌, ◌≢◌, ◌↔◌, ℕ, zero, suc, ◌⊎◌, inl, inr, IsTrue, Some, List, [], ◌∷◌, ◌++◌, length, slice_get, sym, refl, ap, ◌∙◌, subst, append-nil, arith}
+use Rattle.std.proofs.Common.{◌≡◌, ◌≢◌, ◌↔◌, ℕ, zero, suc, ◌⊎◌, inl, inr, Some, List, [], ◌∷◌, slice_get, sym, refl, ap, ◌∙◌, subst, append-nil, arith}
 use Rattle.law_sig.specs.Lists.{In, Each}
 use Rattle.law_sig.specs.Lists.In.{here, there}
 use Rattle.law_sig.specs.Trees.{joined}
@@ -56,11 +56,14 @@ unfolding id_of
 first_told [] vss p later = record { alike = (λ v w i j. in_none i, later.alike); distinct = later.distinct }
 first_told (u ∷ us) vss p later = record {
   alike = (λ v w i j. (p 0 0 (u ∷ us) (u ∷ us) v w refl refl i j).1 refl, later.alike);
-  distinct = (each_of (λ h. u.0 ≢ h) (heads vss) (λ h i e.
-      let f = head_in vss h i in
-      let same : u ≡ f.item = ap id_of (e ∙ sym f.is) in
-      let zero_is : 0 ≡ suc f.place = (p 0 (suc f.place) (u ∷ us) f.list u f.item refl f.there_is here f.at).0 same in
-      omega arith), later.distinct);
+  distinct = (
+    each_of (λ h. u.0 ≢ h) (heads vss) (λ h i e.
+        let f = head_in vss h i in
+        let same : u ≡ f.item = ap id_of (e ∙ sym f.is) in
+        let zero_is : 0 ≡ suc f.place = (p 0 (suc f.place) (u ∷ us) f.list u f.item refl f.there_is here f.at).0 same in
+        omega arith),
+    later.distinct,
+  );
 }
 
 parted_told : (vss : List (List ValueId)) → AreParted vss → AreTold vss

@@ -1,8 +1,7 @@
 -- The items of a split, one after another.
-use Rattle.std.proofs.Common.{◌≡◌, ℕ, ◌+◌, ◌<◌, ◌≤◌, ◌⊎◌, inl, inr, Option, Some, None, MatchOption, List, [], ◌∷◌, ◌++◌, length, take, drop, slice_index_or, option_and_then, sym, refl, ap, ◌∙◌, subst, arith}
-use Rattle.law_sig.specs.Lists.{In, Each}
+use Rattle.std.proofs.Common.{◌≡◌, ℕ, ◌+◌, ◌<◌, Option, Some, None, List, [], ◌∷◌, ◌++◌, length, take, drop, slice_index_or, option_and_then, sym, refl, ap, ◌∙◌, subst}
+use Rattle.law_sig.specs.Lists.{Each}
 use Rattle.law_sig.specs.Trees.{joined}
-use Rattle.law_sig.specs.Tests.{val}
 use Rattle.law_sig.specs.declared.tree.Tree.{Tree}
 use Rattle.law_sig.specs.declared.parts.SigParts.{SigParts}
 use Rattle.law_value.specs.declared.bank.ValueId.{ValueId}
@@ -10,16 +9,14 @@ use Rattle.law_value.specs.Values.{Grows, tree_of}
 use Rattle.law_pool.proofs.Reading.{id_keeps, take_next}
 use Rattle.law_gen.specs.Draws.{pools_by}
 use Rattle.law_valid.specs.declared.rule.Answer.{Answer}
-use Rattle.law_valid.specs.declared.rule.Answer.TheVariants.{Yes, No, Over}
+use Rattle.law_valid.specs.declared.rule.Answer.TheVariants.{No, Over}
 use Rattle.law_valid.specs.declared.rule.Rule.{Rule}
 use Rattle.law_valid.specs.Stated.{numbered}
-use Rattle.law_valid.specs.Splits.{AreApart}
 use Rattle.law_valid.specs.Trees.{value_of}
-use Rattle.law_valid.specs.Judged.{If, Valued, ItemValued, ItemsValued}
-use Rattle.law_test.specs.Values.{IsTestable, IsValue, val_by, Both}
+use Rattle.law_valid.specs.Judged.{Valued, ItemValued, ItemsValued}
+use Rattle.law_test.specs.Values.{IsValue, val_by, Both}
 use Rattle.law_test.proofs.BothFacts.{both_more, both_map}
 use Rattle.law_check.specs.Splitting.{Nothing, IsNumberValue}
-use Rattle.law_check.proofs.Goes.{IsYes}
 use Rattle.law_check.proofs.Onces.{parted_at}
 
 module _ (parts : SigParts) (rule : Rule) (entry : ℕ) (terms : List Tree) (test : ℕ) where

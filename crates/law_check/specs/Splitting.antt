@@ -1,6 +1,5 @@
 -- The items of a split, by their numbers, and their values.
 use Rattle.std.specs.Prelude.{◌≡◌, ℕ, List, Ok, Err, Result, Some}
-use Rattle.law_sig.specs.Lists.{Each}
 use Rattle.law_sig.specs.Trees.{joined}
 use Rattle.law_sig.specs.declared.tree.Tree.{Tree}
 use Rattle.law_sig.specs.declared.parts.SigParts.{SigParts}

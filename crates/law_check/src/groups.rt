@@ -28,7 +28,7 @@ fn schema(alloc: Global, term: &Tree) -> Result<Tree, NoMemory>
 }
 
 /// Whether a term is of a sort.
-fn is_of_sort(sig: &Sig, term: &Tree, sort: SortId) -> bool
+pub fn is_of_sort(sig: &Sig, term: &Tree, sort: SortId) -> bool
     ensures { IsTrue result ↔ IsOfSort sig.now sort term.now }
 {
     match sig.sort_of(term) {

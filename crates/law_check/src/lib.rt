@@ -7,6 +7,7 @@ mod candidates;
 mod check;
 mod counts;
 mod entries;
+mod forest;
 mod groups;
 mod closing;
 mod instances;
@@ -25,6 +26,7 @@ mod term;
 mod terms;
 #[cfg(test)]
 mod tests;
+mod trees;
 mod values;
 mod verdict;
 mod walks;

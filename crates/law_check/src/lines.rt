@@ -81,10 +81,7 @@ pub fn first_tree<'l>(
             return Ok((found, left));
         };
         push_part(&mut found, part, line)?;
-        owed = at_most(
-            (owed - 1).saturating_add(arity(line)),
-            rest.len() as u64,
-        );
+        owed = at_most((owed - 1).saturating_add(arity(line)), rest.len() as u64);
         left = rest;
     }
     Ok((found, left))

@@ -38,11 +38,7 @@ fn numbered(terms: &[Tree], number: u64) -> Option<&Tree>
 
 impl<'s> Split<'s> {
     /// The value of the term with a number, or why there is none.
-    fn value(
-        &self,
-        bank: &mut ValueBank,
-        number: u64,
-    ) -> Result<Result<ValueId, Answer>, NoMemory>
+    fn value(&self, bank: &mut ValueBank, number: u64) -> Result<Result<ValueId, Answer>, NoMemory>
         requires pools { ArePools self.now.tester.sig.now bank.old self.now.tester.pools.now }
         requires test { self.now.test < tests_by self.now.tester.sig.now }
         requires terms { Each (IsTestable self.now.tester.sig.now) self.now.terms.now }
@@ -54,11 +50,7 @@ impl<'s> Split<'s> {
         };
         match value(&self.tester, bank, self.test, term)? {
             Some(found) => Ok(Ok(found)),
-            None => Ok(Err(Answer::Over(
-                self.entry,
-                self.test,
-                term.copy(self.tester.alloc)?,
-            ))),
+            None => Ok(Err(Answer::Over(self.entry, self.test, term.copy(self.tester.alloc)?))),
         }
     }
 

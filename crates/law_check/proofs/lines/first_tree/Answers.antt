@@ -1,5 +1,4 @@
-use Rattle.std.proofs.Common.{◌≡◌, ◌+◌, ◌-◌, ◌^◌, min, length, refl, ap, ◌∙◌, rules}
-use Rattle.law_check.specs.Lines.{arity, parts_of, behind}
+use Rattle.std.proofs.Common.{◌+◌, ◌-◌, ◌^◌, min, length, refl, ap, ◌∙◌, rules}
 use Rattle.law_check.proofs.Taking.{tree_next}
 use Rattle.law_check.proofs.lines.first_tree.Goals as goal
 

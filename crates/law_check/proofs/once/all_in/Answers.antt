@@ -1,4 +1,4 @@
-use Rattle.std.proofs.Common.{rules, slice_index_or}
+use Rattle.std.proofs.Common.{slice_index_or}
 use Rattle.law_sig.specs.Lists.{In}
 use Rattle.law_check.proofs.Onces.{reread, is_in, not_each, each_next}
 use Rattle.law_check.proofs.once.all_in.Goals as goal
