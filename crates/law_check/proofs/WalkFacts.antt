@@ -1,6 +1,7 @@
 -- The walk over all entries, and the trees behind it.
 use Rattle.std.proofs.Common.{◌≡◌, ℕ, zero, suc, ◌+◌, ◌≤◌, Some, None, slice_get, List, [], ◌∷◌, ◌++◌, length, map, take, drop, refl, sym, ap, ◌∙◌, subst, arith}
 use Rattle.std.proofs.lemmas.List.{length-map, take_all}
+use Rattle.std.specs.List.{AllByRecursion}
 use Rattle.law_sig.specs.Lists.{Each, AreDistinct}
 use Rattle.law_sig.specs.Tests.{Pools}
 use Rattle.law_sig.specs.declared.tree.Tree.{Tree}
@@ -9,6 +10,9 @@ use Rattle.law_laws.proofs.ListFacts.{mapped}
 use Rattle.law_laws.proofs.BodyFacts.{some_is, none_is}
 use Rattle.law_cert.specs.declared.cert.Entry.{Entry as Written}
 use Rattle.law_cert.specs.declared.cert.SortTree.{SortTree as WrittenTree}
+use Rattle.law_cert.specs.declared.cert.TreeLine.{TreeLine}
+use Rattle.law_cert.specs.declared.cert.TreeLine.TheVariants as line
+use Rattle.law_cert.specs.Certificates.{IsNode, IsTree}
 use Rattle.law_gen.specs.Draws.{pools_by}
 use Rattle.law_test.specs.Values.{IsTestable}
 use Rattle.law_valid.specs.declared.certificate.Entry.{Entry}
@@ -19,6 +23,8 @@ use Rattle.law_valid.specs.Stated.{stated, spread_at, live_at}
 use Rattle.law_valid.specs.Judged.{Entries, InTrees, entry_after}
 use Rattle.law_valid.specs.Named.{entry_named, entries_named, AreTreesOf}
 use Rattle.law_check.specs.declared.entries.Seen.{Seen}
+use Rattle.law_check.specs.Lines.{HasKid}
+use Rattle.law_check.specs.Planted.{HaveKids}
 use Rattle.law_check.specs.Steps.{IsYes, OfEntry, OfEnd, block_after, HasSeen, HasPlace, IsAnswerTo, IsAnswerAtEnd, SeesMore, EntriesFrom, AnswersAll, HasWalked}
 use Rattle.law_check.proofs.NameFacts.{taken, long}
 use Rattle.law_check.proofs.StepFacts.{entry_map, entry_on, end_map, end_on, to_entries}
@@ -35,6 +41,21 @@ drop_end [] zero h = refl
 drop_end [] (suc n) h = refl
 drop_end (y ∷ xs) zero h = absurd (omega arith)
 drop_end (y ∷ xs) (suc n) h = drop_end xs n (omega arith)
+
+-- a split of a written tree has a child
+
+has_kid : (l : TreeLine) → IsNode l → HasKid l
+has_kid (line.Split test count) node = let h = node.2 in omega arith
+has_kid (line.Class numbers) node = tt
+has_kid (line.Leaf number) node = tt
+
+each_kid : (ls : List TreeLine) → AllByRecursion IsNode ls → Each HasKid ls
+each_kid [] h = tt
+each_kid (l ∷ ls) h = (has_kid l h.0, each_kid ls h.1)
+
+pub have_kids : (trees : List WrittenTree) → AllByRecursion IsTree trees → Each HaveKids trees
+have_kids [] h = tt
+have_kids (t ∷ ts) h = (each_kid t.lines h.0.each, have_kids ts h.1)
 
 module _ (parts : SigParts) (raws : List Written) where
   pub walked_start : (seen : Seen) → HasSeen parts [] None seen → HasWalked parts raws 0 seen

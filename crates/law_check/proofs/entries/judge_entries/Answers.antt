@@ -7,7 +7,7 @@ use Rattle.law_test.specs.Values.{IsTestable}
 use Rattle.law_test.proofs.Testing.{pools_stay}
 use Rattle.law_valid.specs.Named.{sort_named, entry_named}
 use Rattle.law_check.specs.Steps.{IsAnswerTo, SeesMore}
-use Rattle.law_check.proofs.WalkFacts.{walked_start, walked_place, walked_terms, walked_fault, walked_on, end_fault, end_trees}
+use Rattle.law_check.proofs.WalkFacts.{have_kids, walked_start, walked_place, walked_terms, walked_fault, walked_on, end_fault, end_trees}
 use Rattle.law_check.proofs.entries.judge_entries.Goals as goal
 
 pub loop-at-init : goal.loop-at-init
@@ -53,7 +53,10 @@ judge_trees-requires-clause-distinct c = subst AreDistinct (sym c.as_slice-sprea
 pub judge_trees-requires-clause-sorts : goal.judge_trees-requires-clause-sorts
 judge_trees-requires-clause-sorts c = c.as_slice-sorts.ensures ∙ c.in_ok-named.ensures ∙ ap (λ p. map (λ (t : SortTree). sort_named p t.sort) c.args.trees.now) c.requires.names
 
+pub judge_trees-requires-clause-kids : goal.judge_trees-requires-clause-kids
+judge_trees-requires-clause-kids c = have_kids c.args.trees.now c.requires.trees
+
 pub returns : goal.returns
 returns c = end_trees c.args.tester.now.sig.now c.args.entries.now c.loop-at.at c.loop-at-test.false c.loop-at.seen c.loop-at.invariant.walked (length c.args.entries.now + 1) refl c.at_end-end.result
     c.at_end-end.ensures c.args.trees.now (c.is_yes-2.ensures.0 c.if-not-is_yes-2.false) c.in_ok-found.found
-    (λ all typed s l are. c.in_ok-found.ensures all typed (s ∙ sym c.as_slice-spreads.ensures) (l ∙ sym c.as_slice-lives.ensures) are)
+    (λ all typed s l are. c.in_ok-found.ensures.answer all typed (s ∙ sym c.as_slice-spreads.ensures) (l ∙ sym c.as_slice-lives.ensures) are)
