@@ -49,7 +49,7 @@ module _ (parts : SigParts) (seen : Seen) (number : ℕ) where
   TellsAwaited b = (p : Progress) → IsAt seen.agenda p → (IsTrue b ↔ (IsTermSpent p → ⊥))
 
   abbrev pub TellsSchema : Tree → Bool → Type 0
-  TellsSchema c b = (p : Progress) → IsAt seen.agenda p → IsTermSpent p → (IsTrue b ↔ IsSchemaNext p c)
+  TellsSchema c b = (p : Progress) → IsAt seen.agenda p → parts ≡ p.parts → IsTermSpent p → (IsTrue b ↔ IsSchemaNext p c)
 
   abbrev pub TellsTerm : Tree → Bool → Type 0
   TellsTerm t b = (p : Progress) → IsAt seen.agenda p → seen.lives ≡ p.lives → (IsTrue b ↔ IsTermNext p t)
@@ -103,12 +103,12 @@ module _ (parts : SigParts) (seen : Seen) (number : ℕ) where
   pub spread_other : (c : Tree) (b d : Bool) → TellsAwaited b → b ≡ false → TellsSchema c d → d ≡ false → IsAnswerTo parts seen number (e.Spread c) (No r.V5 number)
   spread_other c b d tells off next other before block has at =
       let s = spent before block has b tells off in
-      inl (s, inr (never_of (next (progress parts before block) has.agenda s) other, ap (No r.V5) at))
+      inl (s, inr (never_of (next (progress parts before block) has.agenda refl s) other, ap (No r.V5) at))
 
   pub spread_holds : (c : Tree) (b d : Bool) → TellsAwaited b → b ≡ false → TellsSchema c d → d ≡ true → IsAnswerTo parts seen number (e.Spread c) Yes
   spread_holds c b d tells off next is before block has at =
       let s = spent before block has b tells off in
-      inl (s, inl ((next (progress parts before block) has.agenda s).0 is, refl))
+      inl (s, inl ((next (progress parts before block) has.agenda refl s).0 is, refl))
 
   -- Killed schemas
 
@@ -119,7 +119,7 @@ module _ (parts : SigParts) (seen : Seen) (number : ℕ) where
       → IsAnswerTo parts seen number (e.Killed q steps) (No r.V5 number)
   killed_other q steps c b d same tells off next other before block has at =
       let s = spent before block has b tells off in
-      inl (s, inr ((λ n. never_of (next (progress parts before block) has.agenda s) other (subst (IsSchemaNext (progress parts before block)) (sym same) n)), ap (No r.V5) at))
+      inl (s, inr ((λ n. never_of (next (progress parts before block) has.agenda refl s) other (subst (IsSchemaNext (progress parts before block)) (sym same) n)), ap (No r.V5) at))
 
   pub killed_refused : (q : Equation) (steps : List Step) (c : Tree) (b d f : Bool) → c ≡ schema_of q.left → TellsAwaited b → b ≡ false → TellsSchema c d → d ≡ true
       → TellsKilled parts seen.known q steps f → f ≡ false → IsAnswerTo parts seen number (e.Killed q steps) (No r.V6 number)
@@ -128,7 +128,7 @@ module _ (parts : SigParts) (seen : Seen) (number : ℕ) where
       inl (
         s,
         inl (
-          subst (IsSchemaNext (progress parts before block)) same ((next (progress parts before block) has.agenda s).0 is),
+          subst (IsSchemaNext (progress parts before block)) same ((next (progress parts before block) has.agenda refl s).0 is),
           inr (never_of (killed before has.equations) refused, ap (No r.V6) at),
         ),
       )
@@ -140,7 +140,7 @@ module _ (parts : SigParts) (seen : Seen) (number : ℕ) where
       inl (
         s,
         inl (
-          subst (IsSchemaNext (progress parts before block)) same ((next (progress parts before block) has.agenda s).0 is),
+          subst (IsSchemaNext (progress parts before block)) same ((next (progress parts before block) has.agenda refl s).0 is),
           inl ((killed before has.equations).0 holds, subst (λ n. AtTests parts (pools_by parts) r.V6 n q IsYes a) at tests),
         ),
       )

@@ -217,7 +217,7 @@ lemma_more parts seen new number q steps k s l a before block has of =
     }
 
 pub spread_more : (parts : SigParts) (seen new : Seen) (c : Tree) → new.known ≡ seen.known → new.spreads ≡ seen.spreads ++ c ∷ [] → new.lives ≡ seen.lives
-    → ((p : Progress) (t : Tree) → IsAt seen.agenda p → parts ≡ p.parts → IsTermSpent p → IsSchemaNext p t → IsAt new.agenda (after_spread p t))
+    → ((p : Progress) → IsAt seen.agenda p → parts ≡ p.parts → IsTermSpent p → IsSchemaNext p c → IsAt new.agenda (after_spread p c))
     → SeesMore parts seen (e.Spread c) new
 spread_more parts seen new c k s l a before block has of =
     let x = e.Spread c in
@@ -227,7 +227,7 @@ spread_more parts seen new c k s l a before block has of =
       spread = s ∙ ap (λ l. l ++ c ∷ []) has.spread ∙ grown spread_at before x;
       live = l ∙ has.live ∙ kept live_at before x refl;
       agenda = subst (IsAt new.agenda) (same_place parts (Some (record { schema = c; terms = [] })) _ _ _ _ _ _ (grown spread_at before x) (grown schema_at before x) (kept live_at before x refl))
-          (a (progress parts before block) c has.agenda refl p.0 m.0);
+          (a (progress parts before block) has.agenda refl p.0 m.0);
       spread_distinct = subst AreDistinct (grown spread_at before x) (distinct_more parts before c has.spread_distinct m.0.above);
       spread_testable = subst (Each (IsTestable parts)) (grown spread_at before x) (each_both (IsTestable parts) (stated spread_at before) (c ∷ []) has.spread_testable
           (considered_testable parts (stated spread_at before) c has.spread_testable m.0.is, tt));

@@ -42,15 +42,15 @@ impl Agenda {
     }
 
     /// Whether this schema is expected, where no instance is.
-    pub fn is_next_schema(&self, schema: &Tree) -> bool
-        ensures { (p : Progress) → IsAt self.now p → IsTermSpent p → IsTrue result ↔ IsSchemaNext p schema.now }
+    pub fn is_next_schema(&self, sig: &Sig, schema: &Tree) -> bool
+        ensures { (p : Progress) → IsAt self.now p → sig.now ≡ p.parts → IsTermSpent p → IsTrue result ↔ IsSchemaNext p schema.now }
     {
         false
     }
 
     /// The next schema is spread.
-    pub fn spread(self, alloc: Global, sig: &Sig) -> Result<Agenda, NoMemory>
-        ensures { IfOk result (λ agenda. (p : Progress) (c : Tree) → IsAt self p → sig.now ≡ p.parts → IsTermSpent p → IsSchemaNext p c → IsAt agenda (after_spread p c)) }
+    pub fn spread(self, alloc: Global, sig: &Sig, schema: &Tree) -> Result<Agenda, NoMemory>
+        ensures { IfOk result (λ agenda. (p : Progress) → IsAt self p → sig.now ≡ p.parts → IsTermSpent p → IsSchemaNext p schema.now → IsAt agenda (after_spread p schema.now)) }
     {
         Err(NoMemory)
     }

@@ -90,7 +90,7 @@ fn of_spread(tester: &Tester, seen: &Seen, entry: u64, spread: &Tree) -> Answer
     if seen.agenda.awaits_term() {
         return Answer::No(Rule::V7, entry);
     }
-    if !seen.agenda.is_next_schema(spread) {
+    if !seen.agenda.is_next_schema(tester.sig, spread) {
         return Answer::No(Rule::V5, entry);
     }
     Answer::Yes
@@ -116,7 +116,7 @@ fn of_killed(
         return Ok(Answer::No(Rule::V7, entry));
     }
     let killed = schema(tester.alloc, &q.left)?;
-    if !seen.agenda.is_next_schema(&killed) {
+    if !seen.agenda.is_next_schema(tester.sig, &killed) {
         return Ok(Answer::No(Rule::V5, entry));
     }
     let known = seen.known.as_slice();
@@ -257,7 +257,7 @@ fn with_spread(alloc: Global, sig: &Sig, seen: Seen, schema: Tree) -> Result<See
         lives,
         agenda,
     } = seen;
-    let next = agenda.spread(alloc, sig)?;
+    let next = agenda.spread(alloc, sig, &schema)?;
     spreads.push(schema)?;
     Ok(Seen {
         known,
