@@ -1,9 +1,13 @@
 //! The top call: all that the program does.
 #![tactic(auto)]
 
+mod answer;
+mod check;
+mod command;
 mod input;
 mod laws;
 mod list;
+mod pieces;
 mod plain;
 mod status;
 mod top;
