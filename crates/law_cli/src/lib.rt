@@ -17,4 +17,6 @@ pub use status::{FormKind, Status, Which, code, status_line};
 pub use top::run;
 
 #[cfg(test)]
+mod check_tests;
+#[cfg(test)]
 mod tests;
