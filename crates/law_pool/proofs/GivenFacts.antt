@@ -23,7 +23,7 @@ length_map f [] = refl
 length_map f (x ∷ xs) = ap suc (length_map f xs)
 
 -- a value is plain
-have_count : (parts : SigParts) (ts : List Tree) (ws : List SortId) → HaveSorts parts ts ws → length ts ≡ length ws
+pub have_count : (parts : SigParts) (ts : List Tree) (ws : List SortId) → HaveSorts parts ts ws → length ts ≡ length ws
 have_count parts [] [] h = refl
 have_count parts [] (w ∷ ws) h = absurd h
 have_count parts (t ∷ ts) [] h = absurd h

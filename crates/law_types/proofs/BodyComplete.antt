@@ -150,9 +150,6 @@ and_right false = refl
 module _ (text : Whole) (parts : SigParts) (declares : Declares text parts) (formed : IsWellFormed parts) (k : ℕ) (fun : Fun)
     (owns : slice_get parts.symbols k ≡ Some (sym.Fun fun)) (place : Option ℕ) (fields : List SortId)
   where
-    scope : Scope
-    scope = scope_at k place fields fun.args
-
     symbol_ok : (f : SymId) (ts : List Body) (wanted : Option SortId) (sort : SortId) (symbol : Sym) → result_of symbol ≡ sort → HaveParts (map (part_of (parts) (scope_at k place fields fun.args)) ts) (args_of symbol)
         → mismatch wanted sort ≡ None → (is_function (Some symbol) && nat_lt k f.0) ≡ false
         → ((f.0 == k) && not (falls place (map (part_of parts (scope_at k place fields fun.args)) ts))) ≡ false

@@ -97,10 +97,6 @@ module _ (text : Whole) (parts : SigParts) (formed : IsWellFormed parts) (sorts 
   args_again f symbol e = ap (λ o. map (sort_id text.sorts) (map (sort_name parts) (unwrap_or (option_map args_of o) []))) e
       ∙ sorts_again (args_of symbol) (formed.symbols f symbol e).args_declared
 
-  -- a symbol without its bodies
-  headed_at : SymId → Option Sym
-  headed_at f = option_map headed (symbol_at parts f)
-
   con_again : (m : ℕ) (c : SymId) → In c (constructors parts (record { 0 = m })) → Some (headed (con_sym text.sorts m (con_row parts c))) ≡ option_map headed (symbol_at parts c)
   con_again m c at =
       let i = cons_of 0 parts.symbols (record { 0 = m }) c at in

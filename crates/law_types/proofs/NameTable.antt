@@ -1,6 +1,6 @@
 -- A table that finds the first place of each name, after one more name.
 use Rattle.std.proofs.Common.{◌≡◌, ℕ, ◌+◌, List, [], ◌∷◌, ◌++◌, length, Bool, true, false, cond, Option, Some, None, refl, sym, ap, ◌∙◌, arith, true≢false, is_some, nat_eq, eqb-true, eq-eqb, ap₂, ◌&&◌}
-use Rattle.std.specs.Prelude.{Vec, vec_items, bytes_eq}
+use Rattle.std.specs.Prelude.{Vec, vec_items}
 use Rattle.std.specs.Map.{lookup}
 use Rattle.std.specs.List.{position_from}
 use Rattle.std.specs.Option.{option_or}
@@ -96,12 +96,3 @@ pub found_new : {A : Type 0} (names : List (List ℕ)) (es : List (Vec ℕ A × 
     → key.items ≡ name → place ≡ length names → Finds names es → names' ≡ names ++ name ∷ [] → es' ≡ es ++ (key, place) ∷ [] → Finds names' es'
 found_new names es name key place names' es' k p finds n e q =
     ap (lookup (λ w. same_name q (vec_items w))) e ∙ finds_new names es name key place k p finds q ∙ ap (λ l. number_of l q) (sym n)
-
--- a key with the bytes of a name that has no place has no entry
-pub absent : {A : Type 0} (names : List (List ℕ)) (es : List (Vec ℕ A × ℕ)) (key : Vec ℕ A) (name : List ℕ) → key.items ≡ name
-    → is_some (number_of names name) ≡ false → Finds names es → lookup (λ w. bytes_eq (vec_items key) (vec_items w)) es ≡ None
-absent names es key name k none finds = ap (λ n. lookup (λ w. bytes_eq n (vec_items w)) es) k ∙ finds name ∙ by (number_of names name) none
-  where
-    by : (o : Option ℕ) → is_some o ≡ false → o ≡ None
-    by None e = refl
-    by (Some x) e = absurd (true≢false e)

@@ -29,9 +29,8 @@ use Rattle.law_types.specs.Stated.{short, stated_tree, stated_body, stated_case,
 use Rattle.law_types.specs.Typed.{Version, IsTypedAs, functions_from}
 use Rattle.law_types.specs.declared.whole.Whole.{Whole}
 use Rattle.law_types.proofs.SideFacts.{Declares}
-use Rattle.law_types.proofs.Laid.{Rules, FunRow, SidesRow, PoolRows, Layout, cases_then, rules_then, funs_then, pool_lines, background_then, tail_lines, layout_lines}
+use Rattle.law_types.proofs.Laid.{Rules, FunRow, Layout, cases_then, rules_then, funs_then, tail_lines, layout_lines}
 use Rattle.law_types.proofs.Laid.Rules.{single, matching}
-use Rattle.law_types.proofs.Laid.PoolRows.{given, seeded}
 use Rattle.law_types.proofs.Told.{told_weights, told_explored, told_background, told_size, told_budget, told_pairs, told_pools, told_symbols, stated_sides, stated_row, stated_pool_rule, con_sym, con_syms, fun_sym, fun_syms}
 use Rattle.law_types.proofs.States.{short_is}
 use Rattle.law_types.proofs.Blocks.{sort_no, nums}
@@ -68,12 +67,6 @@ fun_weights_back parts k [] rows h = ap (map (λ (r : FunRow). short r.weight)) 
 fun_weights_back parts k (sym.Con con ∷ symbols) rows h = fun_weights_back parts (suc k) symbols rows h
 fun_weights_back parts k (sym.Fun fun ∷ symbols) [] h = absurd h
 fun_weights_back parts k (sym.Fun fun ∷ symbols) (r ∷ rows) h = ap₂ ◌∷◌ (ap short h.0.weight) (fun_weights_back parts (suc k) symbols rows h.1)
-
-no_case_behind : (es : List SidesRow) (ps : PoolRows) → case_names (background_then es (pool_lines ps)) ≡ []
-no_case_behind (e ∷ es) ps = refl
-no_case_behind [] (seeded s h c) = refl
-no_case_behind [] (given []) = refl
-no_case_behind [] (given (p ∷ ps)) = refl
 
 module _ (text : Whole) (parts : SigParts) (formed : IsWellFormed parts) (declared : Declares text parts) where
   -- Background and pools

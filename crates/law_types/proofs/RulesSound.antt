@@ -260,9 +260,6 @@ module _ (text : Whole) (parts : SigParts) (declares : Declares text parts) (dis
         subst (λ z. IsCase (λ fields body. IsBody parts (formed_at k (Some n) fields args) result body) z (stated_case text (cases_then cs rest) c)) (sym here_it_is)
         (subst (λ b. IsBody parts (formed_at k (Some n) o.con.args args) result b) (sym f.case) o.body.is)
 
-    name_of : SymId → List ℕ
-    name_of c = symbol_name parts c
-
     named_so : (c : SymId) → (f : CaseFound text cs rest c) → symbol_name parts c ≡ f.row.con
     named_so c f = get_or_from_slice_get parts.symbol_names c.0 f.row.con [] (ap (λ l. slice_get l c.0) (sym declares.names) ∙ f.named)
 

@@ -96,11 +96,6 @@ argument_passed text scope sorts terms at sort t fault e k f none = next_argumen
     by None s = refl
     by (Some x) s = absurd (true≢false s)
 
--- no argument is left
-pub no_argument : (text : Whole) (scope : Scope) (sorts : List SortId) (terms : List RawTerm) (at : ℕ) → slice_get sorts at ≡ None
-    → args_fault text scope (drop at sorts) (drop at terms) ≡ None
-no_argument text scope sorts terms at e = ap (λ l. args_fault text scope l (drop at terms)) (drop_none sorts at e)
-
 pub spent : (text : Whole) (scope : Scope) (sorts : List SortId) → args_fault text scope sorts [] ≡ None
 spent text scope [] = refl
 spent text scope (s ∷ sorts) = refl

@@ -116,9 +116,6 @@ not_low true true e h = refl
 not_low true false e h = absurd (true≢false e)
 not_low false c e h = absurd (true≢false (sym h))
 
-no_case_tail : (l : Layout) → case_names (tail_lines l) ≡ []
-no_case_tail l = refl
-
 -- The settings again
 
 abbrev start : Version → ℕ → ℕ → ℕ → RawLine → List RawLine → List RawLine

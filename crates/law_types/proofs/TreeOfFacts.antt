@@ -185,4 +185,11 @@ typed_unsorted parts term found formed e unsorted tree written sorted =
     clash : is_some (sort_of parts found) ≡ true → ⊥
     clash h = let k : ◌≡◌ {A = Bool} true false = sym h ∙ unsorted in cc
 
+-- so the answer to it is the term
+pub typed_of_raw_term : (parts : SigParts) (tree : Tree) (found : Option Tree) → IsWellFormed parts → IsSome (sort_of parts tree)
+    → IsTyped parts (named_term parts tree) found → found ≡ Some tree
+typed_of_raw_term parts tree None formed sorted none = absurd (none tree refl sorted)
+typed_of_raw_term parts tree (Some other) formed sorted same =
+    sym (found_again parts formed other same.1) ∙ ap (tree_of parts) same.0 ∙ found_again parts formed tree sorted
+
 pub ruleset typed_facts = (typed_some, typed_none, typed_unsorted)

@@ -1,4 +1,4 @@
-ghost use Rattle.law_valid.specs.Certificates.{CertCovers, CertYesIsValid, OneCertAnswer, OneReading, SpelledMeans};
+ghost use Rattle.law_valid.specs.Certificates.{CertCovers, CertYesIsValid, OneCertAnswer, OneReading, SpelledMeans, NamesReadBack};
 ghost use Rattle.law_valid.specs.Checking.{YesIsValid, OneAnswer};
 ghost use Rattle.law_valid.specs.Coverage.{ChainsDerive, ValidCovers};
 
@@ -16,11 +16,12 @@ pub fn checking_laws()
 
 /// The same of a certificate by its names: its laws cover, and the order of checking finds nothing wrong exactly where it
 /// is valid, and has one answer at most. The lines of its trees have one reading; and each that the grammar spells has
-/// one, where its first lines state a signature.
+/// one, where its first lines state a signature. Sorts and terms that are written by their names are read back.
 pub fn certificate_laws()
     ensures covers { CertCovers }
     ensures exact { CertYesIsValid }
     ensures one { OneCertAnswer }
     ensures reading { OneReading }
     ensures spelled { SpelledMeans }
+    ensures names { NamesReadBack }
 {}

@@ -7,7 +7,7 @@ use Rattle.law_valid.proofs.Covered.{covers}
 use Rattle.law_valid.proofs.Passing.{never_no}
 use Rattle.law_valid.proofs.Checked.{yes_valid, valid_yes}
 use Rattle.law_valid.proofs.Reading.{one_reading}
-use Rattle.law_valid.proofs.Meanings.{one_cert_answer}
+use Rattle.law_valid.proofs.Meanings.{one_cert_answer, names_back}
 use Rattle.law_valid.proofs.Growing.{spelled_means}
 use Rattle.law_valid.proofs.laws.certificate_laws.Goals as goal
 
@@ -25,4 +25,5 @@ returns c = record {
   one = one_cert_answer;
   reading = one_reading;
   spelled = spelled_means;
+  names = names_back;
 }

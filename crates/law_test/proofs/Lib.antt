@@ -1,0 +1,5 @@
+pub mod BothFacts
+pub mod Testing
+pub mod PoolFacts
+pub mod WordFacts
+pub mod TableFacts

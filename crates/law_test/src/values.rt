@@ -1,0 +1,57 @@
+ghost use Rattle.std.specs.Prelude.{◌≡◌, ◌<◌, List, None, IfOk, IsErrOf};
+ghost use Rattle.law_sig.specs.declared.tree.Tree.{Tree};
+ghost use Rattle.law_value.specs.Values.{Grows};
+ghost use Rattle.law_test.specs.Values.{ArePools, IsTestable, IsValue, tests_by, val_by};
+
+use law_eval::{EvalErr, apply};
+use law_pool::Pools;
+use law_sig::{Seq, Sig, Tree};
+use law_value::{ValueBank, ValueId};
+use std::alloc::Global;
+
+/// A signature and its pools, on which terms are tested.
+#[derive(Clone, Copy)]
+pub struct Tester<'s> {
+    pub alloc: Global,
+    pub sig: &'s Sig,
+    pub pools: &'s Pools,
+}
+
+impl<'s> Tester<'s> {
+    /// How many tests there are.
+    pub fn tests(&self) -> u64
+        ensures { (bank : List Tree) → ArePools self.now.sig.now bank self.now.pools.now → result ≡ tests_by self.now.sig.now }
+    {
+        self.pools.tests()
+    }
+
+    /// The value of a term at a test, node by node, each application with the full budget.
+    pub fn value(&self, bank: &mut ValueBank, test: u64, term: &Tree) -> Result<ValueId, EvalErr>
+        requires pools { ArePools self.now.sig.now bank.old self.now.pools.now }
+        requires test { test < tests_by self.now.sig.now }
+        requires term { IsTestable self.now.sig.now term.now }
+        ensures value { IfOk result (IsValue self.now.sig.now bank.new test term.now) }
+        ensures over { IsErrOf result EvalErr.Over → val_by self.now.sig.now test term.now ≡ None }
+        ensures grows { Grows bank.old bank.new }
+    {
+        match term {
+            Tree::Var(sort, index) => Ok(self.pools.value_at(test, *sort, *index)),
+            Tree::App(head, args) => {
+                let mut values = Seq::new(self.alloc);
+                for arg in args.as_slice() {
+                    values.push(self.value(bank, test, arg)?)?;
+                }
+                let budget = self.sig.settings().budget;
+                let (found, _) = apply(
+                    self.alloc,
+                    self.sig,
+                    bank,
+                    *head,
+                    values.as_slice(),
+                    budget,
+                )?;
+                Ok(found)
+            }
+        }
+    }
+}
