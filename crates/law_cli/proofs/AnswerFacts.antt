@@ -1,23 +1,8 @@
--- Facts for the answer to a text: what a line of a status says of the bytes, and how long texts are.
-use Rattle.std.proofs.Common.{◌≡◌, ℕ, ◌<◌, ◌≤◌, ◌^◌, List, [], ◌∷◌, ◌++◌, length, map, Result, Ok, Err, IfOk, OnOk, arith, sym, ap, ◌∙◌, subst, refl}
+-- Facts for the answer to a text: what a line of a status says of the bytes.
+use Rattle.std.proofs.Common.{◌≡◌, ℕ, List, ◌++◌, Result, Ok, Err, IfOk, OnOk, sym, ap, ◌∙◌, subst, refl}
 use Rattle.std.specs.Bool.{⊤}
-use Rattle.std.proofs.lemmas.List.{length-append, length-map, append_assoc}
-use Rattle.law_sig.specs.declared.parts.SigParts.{SigParts}
+use Rattle.std.proofs.lemmas.List.{append_assoc}
 use Rattle.law_sig.specs.declared.seq.NoMemory.{NoMemory}
-use Rattle.law_sig.specs.declared.parts.PoolRule.{PoolRule}
-use Rattle.law_sig.specs.declared.parts.PoolRule.TheVariants as rule
-use Rattle.law_sig.specs.Lists.{Each}
-use Rattle.law_sig.specs.Tests.{Pools}
-use Rattle.law_sig.specs.WellFormed.{IsWellFormed, IsPool, IsPoolRule}
-use Rattle.law_laws.proofs.ListFacts.{each_map}
-use Rattle.law_gen.specs.Draws.{pools_from, pools_by, generator_of}
-use Rattle.law_gen.proofs.PoolFacts.{pools_shape}
-use Rattle.law_read.specs.declared.raw.RawLine.{RawLine}
-use Rattle.law_read.specs.Spelling.{line_spelling, sig_spelling}
-use Rattle.law_types.specs.Typed.{IsTypedAs, HasFewSorts, background_line, settings_lines, sort_block, sort_ids, given_lines}
-use Rattle.law_types.specs.Naming.{symbol_name}
-use Rattle.law_sig.specs.Trees.{joined}
-use Rattle.law_read.specs.declared.raw.RawLine.TheVariants.{End, Explore}
 use Rattle.law_cli.specs.Printed.{status_text}
 use Rattle.law_cli.specs.Answers.{Cause, IsAnswerTo, IsListText, IsOneOf}
 use Rattle.law_cli.specs.Checks.{CheckCause, IsCheckAnswer, IsYesText}
@@ -58,41 +43,3 @@ pub check_refused : (Read : List ℕ → Type 0) (s : Status) (made : Result Ans
 check_refused Read s (Err e) cause is = tt
 check_refused Read s (Ok a) cause is = λ bytes read. by_line (IsYesText bytes) (CheckCause bytes) s a (λ h. h) (cause bytes read) is
 
--- a text has a byte for each of its lines at least
-few_lines : (lines : List RawLine) → length lines ≤ length (sig_spelling lines)
-few_lines [] = omega arith
-few_lines (line ∷ lines) = omega (arith, few_lines lines, length-append (line_spelling line ++ 10 ∷ []) (sig_spelling lines), length-append (line_spelling line) (10 ∷ []))
-
--- fewer background equations than bytes
-pub few_background : (lines : List RawLine) (parts : SigParts) → IsTypedAs lines parts → length (sig_spelling lines) ≤ 1048576 → length parts.settings.background < 2 ^ 62
-few_background lines parts typed short = omega (arith, few_lines lines, short, within)
-  where
-    few_in : (heads sorts functions equations others : List RawLine) (e : RawLine) → length equations ≤ length (heads ++ (sorts ++ (functions ++ (e ∷ (equations ++ others)))))
-    few_in heads sorts functions equations others e = omega (
-      arith,
-      length-append heads (sorts ++ (functions ++ (e ∷ (equations ++ others)))),
-      length-append sorts (functions ++ (e ∷ (equations ++ others))),
-      length-append functions (e ∷ (equations ++ others)),
-      length-append equations others,
-    )
-
-    within : length parts.settings.background ≤ length lines
-    within = omega (
-      arith,
-      length-map parts.settings.background (background_line parts),
-      ap length typed.lines_are,
-      few_in (settings_lines typed.version parts) (joined (map (sort_block typed.version parts) (sort_ids parts))) typed.functions
-          (map (background_line parts) parts.settings.background) (given_lines parts parts.settings.pools ++ End ∷ []) (Explore (map (symbol_name parts) parts.settings.explored)),
-    )
-
--- no pool has values for more than 64 sorts
-few_sorts_from : (parts : SigParts) (r : PoolRule) → IsWellFormed parts → IsPoolRule parts r → Each HasFewSorts (pools_from parts r)
-few_sorts_from parts (rule.Given pools) well is =
-    each_map (IsPool parts) HasFewSorts (λ pool k. omega (arith, k.sorts, well.sorts_range)) pools is.each_pool
-few_sorts_from parts (rule.Seeded seed height count) well is =
-    each_map (λ pool. map length pool ≡ parts.settings.width) HasFewSorts
-    (λ pool k. omega (arith, sym (length-map pool length), ap length k, well.settings.width.one_each, well.sorts_range)) _
-    (pools_shape parts well height count (generator_of seed))
-
-pub few_sorts : (parts : SigParts) (pools : Pools) → IsWellFormed parts → pools ≡ pools_by parts → Each HasFewSorts pools
-few_sorts parts pools well is = subst (Each HasFewSorts) (sym is) (few_sorts_from parts parts.settings.pools well well.settings.pools)

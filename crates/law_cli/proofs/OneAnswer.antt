@@ -16,12 +16,14 @@ use Rattle.law_types.specs.LineFaults.{first_fault}
 use Rattle.law_types.specs.declared.errors.TypeKind.{TypeKind}
 use Rattle.law_types.specs.declared.errors.TypeErr.{TypeErr}
 use Rattle.law_types.specs.declared.errors.TypeErr.TheVariants as type_err
+use Rattle.law_cert.specs.Spelling.{list_spelling}
 use Rattle.law_gen.specs.Draws.{pools_by}
 use Rattle.law_explore.specs.Refusals.{Refusal, IsRefusal}
 use Rattle.law_explore.specs.Refusals.Refusal.{Assignments, TooManyTerms, ValueTooLarge, Over, BackgroundFails}
 use Rattle.law_explore.specs.LawList.{IsWithin, IsLawListOf}
+use Rattle.law_explore.specs.Named.{named_list}
 use Rattle.law_explore.proofs.RefusalFacts.{one_refusal, none_within}
-use Rattle.law_cli.specs.Printed.{status_text, list_spelling}
+use Rattle.law_cli.specs.Printed.{status_text}
 use Rattle.law_cli.specs.Answers.{most_terms, IsTextOf, IsStated, IsListText, HasTypeFault, IsAnswerTo}
 use Rattle.law_cli.specs.declared.status.FormKind.TheVariants as form
 use Rattle.law_cli.specs.declared.status.Which.TheVariants as which
@@ -134,14 +136,15 @@ two_listed : Below → (bytes text other : List ℕ) → IsListText bytes text �
 two_listed b bytes text other h k =
     let lines = same_lines b bytes h.lines k.lines h.stated.text k.stated.text in
     let parts = same_parts b bytes h.lines k.lines h.parts k.parts h.stated k.stated in
-    h.printed ∙ by h.lines k.lines h.parts k.parts h.pools k.pools h.laws k.laws lines parts h.list k.list ∙ sym k.printed
+    h.printed ∙ ap list_spelling (h.listing.named ∙ by h.lines k.lines h.parts k.parts h.listing.pools k.listing.pools h.listing.laws k.listing.laws lines parts
+    h.listing.list_of k.listing.list_of ∙ sym k.listing.named) ∙ sym k.printed
   where
     by : (l m : List RawLine) (p q : SigParts) (ps qs : Pools) (es ds : List Equation) → l ≡ m → p ≡ q → IsLawListOf p most_terms ps es → IsLawListOf q most_terms qs ds
-        → list_spelling l p ps es ≡ list_spelling m q qs ds
+        → named_list l p ps es ≡ named_list m q qs ds
     by l m p q ps qs es ds e f h k =
         let pools : ps ≡ qs = h.pools_are ∙ ap pools_by f ∙ sym k.pools_are in
         let laws = one_law_list q qs es ds (subst (λ x. IsLawList q x es) pools (subst (λ x. IsLawList x ps es) f h.listed)) k.listed in
-        ap (λ x. list_spelling x p ps es) e ∙ ap (λ x. list_spelling m x ps es) f ∙ ap (λ x. list_spelling m q x es) pools ∙ ap (list_spelling m q qs) laws
+        ap (λ x. named_list x p ps es) e ∙ ap (λ x. named_list m x ps es) f ∙ ap (λ x. named_list m q x es) pools ∙ ap (named_list m q qs) laws
 
 -- two of different kinds
 unread_is_no_text : (bytes : List ℕ) (s : Status) (lines : List RawLine) → IsUnread bytes s → IsTextOf bytes lines → ⊥
@@ -180,8 +183,8 @@ one_answer b bytes text other s u h k = by (kinds bytes text s h) (kinds bytes o
   where
     by : Answers bytes s text → Answers bytes u other → (s ≡ u) × (text ≡ other)
     by (inl h) (inl k) = (h.is ∙ sym k.is, two_listed b bytes text other h.list k.list)
-    by (inl h) (inr k) = absurd (refused_is_not_good b bytes u h.list.lines h.list.parts k.1 h.list.stated h.list.list.within)
-    by (inr h) (inl k) = absurd (refused_is_not_good b bytes s k.list.lines k.list.parts h.1 k.list.stated k.list.list.within)
+    by (inl h) (inr k) = absurd (refused_is_not_good b bytes u h.list.lines h.list.parts k.1 h.list.stated h.list.listing.list_of.within)
+    by (inr h) (inl k) = absurd (refused_is_not_good b bytes s k.list.lines k.list.parts h.1 k.list.stated k.list.listing.list_of.within)
     by (inr h) (inr k) = let same = two_lines b bytes s u h.1 k.1 in (same, h.0 ∙ ap status_text same ∙ sym k.0)
 
 pub good_is_listed : Below → (bytes text : List ℕ) (s : Status) (lines : List RawLine) (parts : SigParts) → IsStated bytes lines parts → IsWithin parts most_terms → IsAnswerTo bytes s text → s ≡ status.Done

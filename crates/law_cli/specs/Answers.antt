@@ -1,8 +1,6 @@
 -- What `plain` answers to the bytes of a signature text, apart from streams and memory.
 use Rattle.std.specs.Prelude.{◌≡◌, ℕ, List, Some}
-use Rattle.law_sig.specs.Tests.{Pools}
 use Rattle.law_sig.specs.declared.tree.SortId.{SortId}
-use Rattle.law_sig.specs.declared.parts.Equation.{Equation}
 use Rattle.law_sig.specs.declared.parts.SigParts.{SigParts}
 use Rattle.law_read.specs.declared.raw.RawLine.{RawLine}
 use Rattle.law_read.specs.Spelling.{sig_spelling}
@@ -12,11 +10,13 @@ use Rattle.law_types.specs.Typed.{IsTypedAs}
 use Rattle.law_types.specs.LineFaults.{first_fault}
 use Rattle.law_types.specs.declared.errors.TypeKind.{TypeKind}
 use Rattle.law_types.specs.declared.errors.TypeErr.TheVariants as type_err
-use Rattle.law_explore.specs.LawList.{IsLawListOf}
+use Rattle.law_cert.specs.declared.cert.LawList.{LawList}
+use Rattle.law_cert.specs.Spelling.{list_spelling}
+use Rattle.law_explore.specs.Named.{IsListing}
 use Rattle.law_explore.specs.Refusals.{IsRefusal, IsTold}
 use Rattle.law_explore.specs.declared.refusal.ExploreErr.{ExploreErr}
 use Rattle.law_explore.specs.declared.refusal.ExploreErr.TheVariants as explore
-use Rattle.law_cli.specs.Printed.{status_text, list_spelling}
+use Rattle.law_cli.specs.Printed.{status_text}
 use Rattle.law_cli.specs.declared.status.FormKind.TheVariants as form
 use Rattle.law_cli.specs.declared.status.Which.TheVariants as which
 use Rattle.law_cli.specs.declared.status.Status.{Status}
@@ -36,16 +36,15 @@ pub record IsStated (bytes : List ℕ) (lines : List RawLine) (parts : SigParts)
   pub text : IsTextOf bytes lines
   pub typed : IsTypedAs lines parts
 
--- the text is the law list of the signature that the bytes state, over the pools that it gives or those of its seed; the
--- laws cover the universe
+-- the text is the spelling of the law list of the signature that the bytes state, over the pools that it gives or those of
+-- its seed; the laws cover the universe, and the grammar of law lists spells the list
 pub record IsListText (bytes text : List ℕ) : Type 0 where
   pub lines : List RawLine
   pub parts : SigParts
   pub stated : IsStated bytes lines parts
-  pub pools : Pools
-  pub laws : List Equation
-  pub list : IsLawListOf parts most_terms pools laws
-  pub printed : text ≡ list_spelling lines parts pools laws
+  pub list : LawList
+  pub listing : IsListing lines parts most_terms list
+  pub printed : text ≡ list_spelling list
 
 -- the bytes spell lines of which this is the first that shows a fault, and its first fault
 pub record HasTypeFault (bytes : List ℕ) (number : ℕ) (kind : TypeKind) : Type 0 where

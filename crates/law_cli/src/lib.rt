@@ -6,7 +6,6 @@ mod check;
 mod command;
 mod input;
 mod laws;
-mod list;
 mod pieces;
 mod plain;
 mod status;

@@ -1,12 +1,12 @@
-ghost use Rattle.std.specs.Prelude.{◌≡◌, ◌≤◌, ℕ, List, length, IfOk};
+ghost use Rattle.std.specs.Prelude.{◌≡◌, ℕ, List, IfOk};
 ghost use Rattle.law_read.specs.Spelling.{sig_spelling};
 ghost use Rattle.law_read.specs.Signature.{IsRawSig};
 ghost use Rattle.law_types.specs.Typed.{IsTypedAs};
 ghost use Rattle.law_cli.specs.Answers.{Cause, IsAnswerTo, IsStated, IsRefusedFor};
 ghost use Rattle.law_cli.specs.Printed.{status_text};
 
-use crate::list::list_text;
 use crate::status::{FormKind, Status, Which, status_line};
+use law_cert::write_list;
 use law_explore::{ExploreErr, plain};
 use law_read::{RawSig, ReadErr, read_sig};
 use law_sig::{NoMemory, Sig, Text};
@@ -25,11 +25,10 @@ pub struct Answer {
 
 /// The answer to a text: the law list of the signature that it states, or the line that says why there is none.
 pub fn answer_to(alloc: Global, bytes: &[u8]) -> Result<Answer, NoMemory>
-    requires { length bytes.now ≤ 1048576 }
     ensures { IfOk result (λ found. IsAnswerTo bytes.now found.status found.text) }
 {
     match read_sig(alloc, bytes) {
-        Ok(raw) => of_lines(alloc, &raw),
+        Ok(raw) => of_lines(alloc, raw),
         Err(ReadErr::Form { line, kind }) => {
             let kind = FormKind::Read(kind);
             refusal(alloc, Status::Form { line, kind })
@@ -39,12 +38,11 @@ pub fn answer_to(alloc: Global, bytes: &[u8]) -> Result<Answer, NoMemory>
 }
 
 /// The answer to the text of these lines.
-fn of_lines(alloc: Global, raw: &RawSig) -> Result<Answer, NoMemory>
-    requires raw { IsRawSig raw.now }
-    requires short { length (sig_spelling raw.now) ≤ 1048576 }
-    ensures { IfOk result (λ found. IsAnswerTo (sig_spelling raw.now) found.status found.text) }
+fn of_lines(alloc: Global, raw: RawSig) -> Result<Answer, NoMemory>
+    requires { IsRawSig raw }
+    ensures { IfOk result (λ found. IsAnswerTo (sig_spelling raw) found.status found.text) }
 {
-    match check_sig(alloc, raw) {
+    match check_sig(alloc, &raw) {
         Ok(sig) => of_signature(alloc, raw, &sig),
         Err(TypeErr::At { line, kind }) => {
             let kind = FormKind::Sort(kind);
@@ -55,21 +53,14 @@ fn of_lines(alloc: Global, raw: &RawSig) -> Result<Answer, NoMemory>
 }
 
 /// The answer to the text of these lines, which state this signature.
-fn of_signature(alloc: Global, raw: &RawSig, sig: &Sig) -> Result<Answer, NoMemory>
-    requires raw { IsRawSig raw.now }
-    requires typed { IsTypedAs raw.now sig.now }
-    requires short { length (sig_spelling raw.now) ≤ 1048576 }
-    ensures { IfOk result (λ found. IsAnswerTo (sig_spelling raw.now) found.status found.text) }
+fn of_signature(alloc: Global, raw: RawSig, sig: &Sig) -> Result<Answer, NoMemory>
+    requires raw { IsRawSig raw }
+    requires typed { IsTypedAs raw sig.now }
+    ensures { IfOk result (λ found. IsAnswerTo (sig_spelling raw) found.status found.text) }
 {
-    match plain(alloc, sig, MOST_TERMS) {
-        Ok(listed) => {
-            let text = list_text(
-                alloc,
-                raw,
-                sig,
-                listed.pools.as_slice(),
-                listed.laws.as_slice(),
-            )?;
+    match plain(alloc, raw, sig, MOST_TERMS) {
+        Ok(list) => {
+            let text = write_list(alloc, &list)?;
             Ok(Answer {
                 status: Status::Done,
                 text,

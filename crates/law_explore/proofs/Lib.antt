@@ -20,3 +20,5 @@ pub mod KnownFacts
 pub mod VectorsTell
 pub mod RefusalFacts
 pub mod ListedFacts
+pub mod NameFacts
+pub mod Spelled

@@ -7,3 +7,4 @@ pub mod Tells
 pub mod Refusals
 pub mod LawList
 pub mod Values
+pub mod Named

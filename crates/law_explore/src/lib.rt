@@ -7,6 +7,7 @@ mod firsts;
 mod laws;
 mod list;
 mod listed;
+mod named;
 mod refusal;
 mod rows;
 mod schemas;
@@ -17,7 +18,7 @@ mod words;
 pub use explore::universe;
 pub use firsts::first_same;
 pub use laws::equations;
-pub use listed::{Listed, plain, refusal_laws};
+pub use listed::{plain, refusal_laws};
 pub use refusal::ExploreErr;
 
 #[cfg(test)]

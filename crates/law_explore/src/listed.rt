@@ -2,22 +2,27 @@ ghost use Rattle.std.specs.Prelude.{◌≤◌, IfOk, IfErr, IsTrue};
 ghost use Rattle.law_sig.specs.Tests.{assignments};
 ghost use Rattle.law_value.specs.Values.{Grows};
 ghost use Rattle.law_gen.specs.Draws.{pools_by};
+ghost use Rattle.law_read.specs.Signature.{IsRawSig};
 ghost use Rattle.law_explore.specs.LawList.{AreLaws, IsLawListOf, OneRefusal, NoneWithin};
 ghost use Rattle.law_explore.specs.Refusals.{IsRefusal, HasLargeValue, HasSmallValues, HasLackingTerm, IsTold};
 ghost use Rattle.law_explore.specs.Values.{ArePools};
+ghost use Rattle.law_explore.specs.Named.{IsListing};
 
 use super::explore::universe;
 use super::firsts::first_same;
 use super::laws::equations;
+use super::named::named_list;
 use super::refusal::ExploreErr;
 use super::values::Tester;
+use law_cert::LawList;
 use law_gen::{GenErr, make_pools};
 use law_pool::{Pools, given_pools};
+use law_read::RawSig;
 use law_sig::{Equation, PoolRule, Seq, Sig, Tree};
 use law_value::ValueBank;
 use std::alloc::Global;
 
-/// The pools of a signature, by pool, sort and place, and its law list.
+/// The pools of a signature, by pool, sort and place, and its laws.
 #[derive(Debug, Drop)]
 pub struct Listed {
     pub pools: Seq<Seq<Seq<Tree>>>,
@@ -62,9 +67,8 @@ impl<'s> Tester<'s> {
     }
 }
 
-/// The law list of a signature, which covers its universe of at most so many terms. Each error but want of memory tells
-/// the first cause that there is.
-pub fn plain(alloc: Global, sig: &Sig, terms: u64) -> Result<Listed, ExploreErr>
+/// The law list of a signature, which covers its universe of at most so many terms, by numbers.
+fn by_numbers(alloc: Global, sig: &Sig, terms: u64) -> Result<Listed, ExploreErr>
     ensures listed { IfOk result (λ listed. IsLawListOf sig.now terms listed.pools listed.laws) }
     ensures refused { IfErr result (IsTold sig.now (IsRefusal sig.now terms)) }
 {
@@ -85,6 +89,17 @@ pub fn plain(alloc: Global, sig: &Sig, terms: u64) -> Result<Listed, ExploreErr>
     let laws = tester.laws(&mut bank)?;
     let pools = pools.written(alloc, &bank)?;
     Ok(Listed { pools, laws })
+}
+
+/// The law list of a signature with these lines, which covers its universe of at most so many terms; the grammar of law
+/// lists spells it. Each error but want of memory tells the first cause that there is.
+pub fn plain(alloc: Global, raw: RawSig, sig: &Sig, terms: u64) -> Result<LawList, ExploreErr>
+    requires { IsRawSig raw }
+    ensures listed { IfOk result (IsListing raw sig.now terms) }
+    ensures refused { IfErr result (IsTold sig.now (IsRefusal sig.now terms)) }
+{
+    let Listed { pools, laws } = by_numbers(alloc, sig, terms)?;
+    Ok(named_list(alloc, raw, sig, pools.as_slice(), laws.as_slice())?)
 }
 
 /// Does nothing. Its contract says of every signature that it has at most one refusal, and none within its limits.

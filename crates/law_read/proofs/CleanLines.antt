@@ -15,8 +15,8 @@ use Rattle.law_read.specs.declared.want.Place.TheVariants as p
 use Rattle.law_read.specs.Spelling.{joined, line_spelling, line_words, spaced}
 use Rattle.law_read.specs.Lines.{IsLine}
 use Rattle.law_read.specs.Stages.{allows_last_key}
-use Rattle.law_read.specs.Walk.{walk}
-use Rattle.law_read.specs.Faults.{is_closed_by, is_printed, is_spaced, kind_in_order, spaces_fit}
+use Rattle.law_read.specs.Walk.{walk, kind_in_order}
+use Rattle.law_read.specs.Faults.{is_closed_by, is_printed, is_spaced, spaces_fit}
 use Rattle.law_read.specs.Laws.{SpelledIsRead}
 use Rattle.law_read.proofs.RowSteps.{both}
 use Rattle.law_read.proofs.Clean.{IsClean, clean_arg, clean_name, clean_number, clean_spaced, clean_term, clean_word, is_graphic, printed_append}
@@ -77,4 +77,4 @@ pub line_read_law : SpelledIsRead
 line_read_law stage line a v h =
     let c = clean_joined (line_words line) (clean_words line h) in
     in_order (list_all is_printed (line_spelling line)) (is_spaced (line_spelling line)) (is_closed_by stage.last) (walk 0 (w.Key stage ∷ []) (pieces (line_spelling line)))
-    c.0 c.1 (not_closed stage.version stage.given stage.last _ a) (line_on stage line a v h)
+    c.0 c.1 (not_closed stage.version stage.given stage.last _ a) (line_on Kept stage line a v h)

@@ -9,7 +9,8 @@ use Rattle.law_read.specs.declared.want.Place.{Place}
 use Rattle.law_read.specs.declared.want.Bounds.TheVariants.{Kept}
 use Rattle.law_read.specs.declared.want.Place.TheVariants as p
 use Rattle.law_read.specs.Terms.{is_name_in}
-use Rattle.law_read.specs.Walk.{cut, cut_by, is_variable, is_index, is_special, is_atom}
+use Rattle.law_read.specs.Walk.{is_variable, is_special, is_atom}
+use Rattle.law_read.specs.Numbers.{cut, cut_by, is_index}
 use Rattle.law_read.specs.Rows.{AtomRead}
 
 -- parts behind more bytes
@@ -36,14 +37,14 @@ cut_joins (c ∷ w) a b e = by (c == 46) refl (cut w) (cut_joins w) e
     by false h None i e = absurd cc
     by false h (Some parts) i e = let f = pair_is (c ∷ parts.0) parts.1 a b e in let g = i parts.0 parts.1 refl in ap (λ l. c ∷ l) g ∙ ap (λ l. l ++ 46 ∷ parts.1) f.0 ∙ ap (λ l. a ++ 46 ∷ l) f.1
 
-pub variable_read : (bytes sort behind text : List ℕ) (n : ℕ) → Some (sort, behind) ≡ cut bytes → is_variable Kept (cut bytes) ≡ true → text ≡ sort
-    → n < 2 ^ 32 → behind ≡ decimal n → AtomRead p.Equation bytes (Var text n)
-variable_read bytes sort behind text n e h is small number = record {
+pub variable_read : (bounds : Bounds) (bytes sort behind text : List ℕ) (n : ℕ) → Some (sort, behind) ≡ cut bytes → is_variable bounds (cut bytes) ≡ true → text ≡ sort
+    → n < 2 ^ 32 → behind ≡ decimal n → AtomRead bounds p.Equation bytes (Var text n)
+variable_read bounds bytes sort behind text n e h is small number = record {
   text = ap (λ l. l ++ 46 ∷ decimal n) is ∙ ap (λ l. sort ++ 46 ∷ l) (sym number) ∙ sym (cut_joins bytes sort behind (sym e));
   fits =
-      let v : (is_name_in Kept sort && is_index behind) ≡ true = subst (λ o. is_variable Kept o ≡ true) (sym e) h in
+      let v : (is_name_in bounds sort && is_index behind) ≡ true = subst (λ o. is_variable bounds o ≡ true) (sym e) h in
       let s : nat_lt n (2 ^ 32) ≡ true = grind (arith, nat_tests) in
-      ap (λ l. is_name_in Kept l && nat_lt n (2 ^ 32)) is ∙ ap (λ b. b && nat_lt n (2 ^ 32)) (front (is_name_in Kept sort) (is_index behind) v) ∙ s;
+      ap (λ l. is_name_in bounds l && nat_lt n (2 ^ 32)) is ∙ ap (λ b. b && nat_lt n (2 ^ 32)) (front (is_name_in bounds sort) (is_index behind) v) ∙ s;
 }
   where
     front : (a b : Bool) → (a && b) ≡ true → a ≡ true

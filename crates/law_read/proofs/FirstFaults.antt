@@ -11,7 +11,7 @@ use Rattle.law_read.specs.Spelling.{line_spelling, text_of}
 use Rattle.law_read.specs.Lines.{IsLine}
 use Rattle.law_read.specs.Stages.{InOrder, stage_after, stage_behind, start}
 use Rattle.law_read.specs.Signature.{IsRawSig}
-use Rattle.law_read.specs.Faults.{line_fault}
+use Rattle.law_read.specs.Walk.{line_fault}
 use Rattle.law_read.specs.Texts.{AreAll, AreRead, FaultyLine, FirstFault, HasReading, IsUnbroken, Unfinished, has_feed, next_number}
 use Rattle.law_read.specs.Progress.{IsClosed, StopsAt, StopsByEnd, StopsByFault}
 use Rattle.law_read.specs.Laws.{OneFault, RefusedIsNoText}

@@ -12,6 +12,7 @@ use Rattle.law_read.specs.declared.raw.RawHead.TheVariants.{Name, Var, Param, Fi
 use Rattle.law_read.specs.declared.raw.RawTerm.{RawTerm}
 use Rattle.law_read.specs.declared.want.Want.{Want}
 use Rattle.law_read.specs.declared.want.Want.TheVariants as w
+use Rattle.law_read.specs.declared.want.Bounds.{Bounds}
 use Rattle.law_read.specs.declared.want.Bounds.TheVariants.{Kept}
 use Rattle.law_read.specs.declared.want.Place.{Place}
 use Rattle.law_read.specs.declared.want.Place.TheVariants as p
@@ -21,7 +22,8 @@ use Rattle.law_read.specs.declared.want.Ending.{Ending}
 use Rattle.law_read.specs.declared.want.Ending.TheVariants as e
 use Rattle.law_read.specs.declared.want.Mark.{Mark}
 use Rattle.law_read.specs.Terms.{is_name_in}
-use Rattle.law_read.specs.Walk.{walk, before_item, behind, cut, end_fault, ends, is_atom, is_index, is_mark, is_special, is_variable, is_word_want, item_place, mark_text, may_end, may_open, moved, root_moved, takes}
+use Rattle.law_read.specs.Walk.{walk, before_item, behind, end_fault, ends, is_atom, is_mark, is_special, is_variable, is_word_want, item_place, mark_text, may_end, may_open, moved, root_moved, takes}
+use Rattle.law_read.specs.Numbers.{cut, is_index}
 use Rattle.law_read.specs.Reads.{Reads, Took, TookWord}
 use Rattle.law_read.specs.Rows.{AtomRead, BehindRead, IsNameRow, IsRootEnding, IsTermRow, ItemRead, NamesRead, NamesSoFar, RootRead, RowEnds, RowGoes, RowRead, RowSoFar, nodes_behind}
 use Rattle.law_read.proofs.Cuts.{variable_read}
@@ -56,7 +58,7 @@ next_by true n want rest old new piece k f s h = record { new = new; first = f.f
 next_by false n want rest old new piece k f s h = let q = stuck n want old new piece f.first k rest in absurd (cc)
 
 pub next : (n : ℕ) (want : Want) (rest : List Want) (old : List ℕ) → walk n (want ∷ rest) (pieces old) ≡ None → Over want rest old ⊎ ((piece : Piece) × Next n want rest old piece)
-next n want rest [] h = let q = both (may_end want) (ends rest) (end_none (may_end want && ends rest) (sym (walk_nil n (want ∷ rest)) ∙ h)) in inl (record { all = refl; may = q.0; ends = q.1 })
+next n want rest [] h = let q = both (may_end want) (ends rest) (end_none (may_end want && ends rest) (sym (walk_nil Kept n (want ∷ rest)) ∙ h)) in inl (record { all = refl; may = q.0; ends = q.1 })
 next n want rest (b ∷ bs) h =
     let f = some_first b bs in inr (f.piece, next_by (takes Kept n want f.piece) n want rest (b ∷ bs) f.rest f.piece refl f.first f.shorter h)
 
@@ -88,39 +90,39 @@ index_by (Some n) bytes e h = let f = number_found (2 ^ 32) n bytes (omega arith
 index_found : (bytes : List ℕ) → is_index bytes ≡ true → (n : ℕ) × (n < 2 ^ 32) × (bytes ≡ decimal n)
 index_found bytes h = index_by (number_below (2 ^ 32) bytes) bytes refl h
 
-abbrev Atom : Place → List ℕ → Type 0
-Atom place bytes = (head : RawHead) × AtomRead place bytes head
+abbrev pub Atom : (bounds : Bounds) → Place → List ℕ → Type 0
+Atom bounds place bytes = (head : RawHead) × AtomRead bounds place bytes head
 
-variable_by : (bytes : List ℕ) (o : Option (List ℕ × List ℕ)) → cut bytes ≡ o → is_variable Kept o ≡ true → Atom p.Equation bytes
-variable_by bytes None e h = absurd cc
-variable_by bytes (Some parts) e h =
-    let q = index_found parts.1 (both (is_name_in Kept parts.0) (is_index parts.1) h).1 in
-    (Var parts.0 q.0, variable_read bytes parts.0 parts.1 parts.0 q.0 (sym e) (ap (is_variable Kept) e ∙ h) refl q.1 q.2)
+variable_by : (bounds : Bounds) (bytes : List ℕ) (o : Option (List ℕ × List ℕ)) → cut bytes ≡ o → is_variable bounds o ≡ true → Atom bounds p.Equation bytes
+variable_by bounds bytes None e h = absurd cc
+variable_by bounds bytes (Some parts) e h =
+    let q = index_found parts.1 (both (is_name_in bounds parts.0) (is_index parts.1) h).1 in
+    (Var parts.0 q.0, variable_read bounds bytes parts.0 parts.1 parts.0 q.0 (sym e) (ap (is_variable bounds) e ∙ h) refl q.1 q.2)
 
 less_test : (n k : ℕ) → n < k → nat_lt n k ≡ true
 less_test n k h = grind (arith, nat_tests)
 
-numbered_by : (b : ℕ) (bs : List ℕ) (x y : Bool) → (b == 35) ≡ x → (b == 64) ≡ y → ((x || y) && is_index bs) ≡ true → Atom p.Body (b ∷ bs)
-numbered_by b bs true y e f h =
+numbered_by : (bounds : Bounds) (b : ℕ) (bs : List ℕ) (x y : Bool) → (b == 35) ≡ x → (b == 64) ≡ y → ((x || y) && is_index bs) ≡ true → Atom bounds p.Body (b ∷ bs)
+numbered_by bounds b bs true y e f h =
     let q = index_found bs (both true (is_index bs) h).1 in
     (Param q.0, record { text = ap (λ l. 35 ∷ l) (sym q.2) ∙ ap (λ n. n ∷ bs) (sym (eqb-true b 35 e)); fits = less_test q.0 (2 ^ 32) q.1 })
-numbered_by b bs false true e f h =
+numbered_by bounds b bs false true e f h =
     let q = index_found bs (both true (is_index bs) h).1 in
     (Field q.0, record { text = ap (λ l. 64 ∷ l) (sym q.2) ∙ ap (λ n. n ∷ bs) (sym (eqb-true b 64 f)); fits = less_test q.0 (2 ^ 32) q.1 })
-numbered_by b bs false false e f h = absurd cc
+numbered_by bounds b bs false false e f h = absurd cc
 
-special_found : (place : Place) (bytes : List ℕ) → is_special Kept place bytes ≡ true → Atom place bytes
-special_found p.Equation bytes h = variable_by bytes (cut bytes) refl h
-special_found p.Body [] h = absurd cc
-special_found p.Body (b ∷ bs) h = numbered_by b bs (b == 35) (b == 64) refl refl h
-special_found p.Value bytes h = absurd cc
+special_found : (bounds : Bounds) (place : Place) (bytes : List ℕ) → is_special bounds place bytes ≡ true → Atom bounds place bytes
+special_found bounds p.Equation bytes h = variable_by bounds bytes (cut bytes) refl h
+special_found bounds p.Body [] h = absurd cc
+special_found bounds p.Body (b ∷ bs) h = numbered_by bounds b bs (b == 35) (b == 64) refl refl h
+special_found bounds p.Value bytes h = absurd cc
 
-atom_by : (t : Bool) (place : Place) (bytes : List ℕ) → is_name_in Kept bytes ≡ t → (t || is_special Kept place bytes) ≡ true → Atom place bytes
-atom_by true place bytes e h = (Name bytes, record { text = refl; fits = e })
-atom_by false place bytes e h = special_found place bytes h
+atom_by : (bounds : Bounds) (t : Bool) (place : Place) (bytes : List ℕ) → is_name_in bounds bytes ≡ t → (t || is_special bounds place bytes) ≡ true → Atom bounds place bytes
+atom_by bounds true place bytes e h = (Name bytes, record { text = refl; fits = e })
+atom_by bounds false place bytes e h = special_found bounds place bytes h
 
-atom_found : (place : Place) (bytes : List ℕ) → is_atom Kept place bytes ≡ true → Atom place bytes
-atom_found place bytes h = atom_by (is_name_in Kept bytes) place bytes refl h
+pub atom_found : (bounds : Bounds) (place : Place) (bytes : List ℕ) → is_atom bounds place bytes ≡ true → Atom bounds place bytes
+atom_found bounds place bytes h = atom_by bounds (is_name_in bounds bytes) place bytes refl h
 
 -- rows of terms
 pub record RowFound (n : ℕ) (row : Row) (level : ℕ) (ending : Ending) (old one : List ℕ) (rest : List Want) : Type 0 where
@@ -170,7 +172,7 @@ item_of fuel rec n row level ending old one two terms mid rest (word bytes) is_r
         whole : walk mid (w.Item row level (length terms) ending ∷ rest) (pieces two) ≡ None
         whole = goes_on mid (w.Item row level (length terms) ending) two x.new (word bytes) x.first x.taken rest ∙ x.left
     by false e =
-        let a = atom_found (item_place row) bytes (word_is_atom mid row level (length terms) ending bytes is_row x.taken e) in
+        let a = atom_found Kept (item_place row) bytes (word_is_atom mid row level (length terms) ending bytes is_row x.taken e) in
         let item = item_word mid row level (length terms) ending two x.new bytes a.0 is_row x.first x.text x.taken e a.1 in
         row_on fuel rec n row level ending old one two x.new terms mid rest _ (before_item row mid + 1) is_row low (let s = x.shorter in omega arith) (let s = x.shorter in omega arith) so goes item
         (sym (item.walked rest) ∙ goes_on mid (w.Item row level (length terms) ending) two x.new (word bytes) x.first x.taken rest ∙ x.left)
@@ -335,7 +337,7 @@ root_by true place ending old rest x e root h =
     (sym (ap (λ b. walk (root_moved b place ending rest).nodes (root_moved b place ending rest).wants (pieces x.new)) e) ∙ x.left) in
     root_over place ending old f.new rest _ (root_named place ending old x.new f.new x.bytes x.bytes f.terms f.more root x.took e refl f.read) h
 root_by false place ending old rest x e root h =
-    let a = atom_found place x.bytes x.took.taken in
+    let a = atom_found Kept place x.bytes x.took.taken in
     let b = behind_found ending x.new rest root (sym (ap (λ b. walk (root_moved b place ending rest).nodes (root_moved b place ending rest).wants (pieces x.new)) e) ∙ x.left) in
     root_over place ending old b.0 rest _ (root_leaf place ending old x.new b.0 x.bytes a.0 [] x.took e a.1 refl b.1) h
 

@@ -8,7 +8,8 @@ use Rattle.law_read.specs.declared.stage.Stage.{Stage}
 use Rattle.law_read.specs.Lines.{IsLine}
 use Rattle.law_read.specs.Stages.{allows, line_key, stage_after, IsOfVersion}
 use Rattle.law_read.specs.Stages.{InOrder, start, stage_behind}
-use Rattle.law_read.specs.Faults.{is_closed_by, line_fault}
+use Rattle.law_read.specs.Faults.{is_closed_by}
+use Rattle.law_read.specs.Walk.{line_fault}
 use Rattle.law_read.proofs.Completes.{reads}
 use Rattle.law_read.proofs.FirstFaults.{stuck}
 use Rattle.law_read.proofs.PlacesFound.{line_kind}

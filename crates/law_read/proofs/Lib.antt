@@ -3,6 +3,7 @@ pub mod AgainTerms
 pub mod AgainAll
 pub mod AgainRoots
 pub mod AgainLines
+pub mod Begins
 pub mod Clean
 pub mod CleanLines
 pub mod Closes
@@ -10,6 +11,8 @@ pub mod Completes
 pub mod Cuts
 pub mod FirstFaults
 pub mod Found
+pub mod FreeLines
+pub mod Freed
 pub mod OneLine
 pub mod OneTerm
 pub mod OrderRows
@@ -23,6 +26,7 @@ pub mod LineSteps
 pub mod LineWords
 pub mod LinesFound
 pub mod Grown
+pub mod Said
 pub mod SomeFirst
 pub mod SegmentTexts
 pub mod Spaced

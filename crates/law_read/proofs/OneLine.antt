@@ -307,7 +307,7 @@ names_no_arrow (x ∷ names) h =
 
 head_no_equals : (place : Place) (head : RawHead) (alone : Bool) → head_fits Kept place head alone ≡ true → IsNot (codes "=") (head_spelling head)
 head_no_equals place head alone h = λ e.
-    let f = sym (ap (λ w. bytes_eq w (codes "=")) e) ∙ (head_atom place head (alone_of place head alone h)).no_mark (ending.Mark Equals) tt in cc
+    let f = sym (ap (λ w. bytes_eq w (codes "=")) e) ∙ (head_atom Kept place head (alone_of place head alone h)).no_mark (ending.Mark Equals) tt in cc
 
 layer_no_equals : (place : Place) (head : RawHead) (alone : Bool) (args : List (List ℕ)) → head_fits Kept place head alone ≡ true → IsNot (codes "=") (bracketed (head_spelling head) args)
 layer_no_equals place head alone [] h = head_no_equals place head alone h

@@ -1,5 +1,5 @@
 -- A text spells one term at most: its words are told apart, and each tells its term.
-use Rattle.std.proofs.Common.{◌≡◌, ℕ, zero, suc, ◌^◌, ◌<◌, Bool, true, false, ◌&&◌, ◌==◌, List, [], ◌∷◌, ◌++◌, Option, Some, None, refl, ap, sym, subst, ◌∙◌, arith, map, length, nat_le, nat_lt, cond, decimal}
+use Rattle.std.proofs.Common.{◌≡◌, ℕ, suc, ◌^◌, ◌<◌, Bool, true, false, ◌&&◌, ◌==◌, List, [], ◌∷◌, ◌++◌, Option, Some, None, refl, ap, sym, subst, ◌∙◌, arith, map, length, nat_le, nat_lt, cond, decimal}
 use Rattle.std.proofs.lemmas.Bool.Decides.{nat_tests}
 use Rattle.std.proofs.lemmas.List.{append_assoc, append-nil}
 use Rattle.std.specs.List.{list_all, AllByRecursion}
@@ -16,10 +16,10 @@ use Rattle.law_read.specs.declared.want.Bounds.TheVariants.{Kept}
 use Rattle.law_read.specs.declared.want.Place.{Place}
 use Rattle.law_read.specs.declared.want.Place.TheVariants as p
 use Rattle.law_read.specs.Spelling.{arg_spelling, arg_step, bracketed, head_spelling, joined, spaced, term_words}
-use Rattle.law_read.specs.FirstArg.{above, word_at, word_by}
+use Rattle.law_read.specs.FirstArg.{word_at, word_by}
 use Rattle.law_read.specs.Laws.{OneTerm}
 use Rattle.law_read.specs.Terms.{head_fits, is_empty, is_name_in, node_fits, nodes_fit, within}
-use Rattle.law_read.specs.Walk.{cut}
+use Rattle.law_read.specs.Numbers.{cut}
 use Rattle.law_read.proofs.RowSteps.{both}
 use Rattle.law_read.proofs.Again.{all_named, cut_at_dot, head_atom, is_solid, less_of}
 
@@ -214,7 +214,7 @@ alone_of p.Body (Field index) false h = absurd cc
 alone_of p.Value (Field index) false h = absurd cc
 
 pub head_plain : (place : Place) (head : RawHead) (alone : Bool) → head_fits Kept place head alone ≡ true → list_all is_plain (head_spelling head) ≡ true
-head_plain place head alone h = solid_plain (head_spelling head) (head_atom place head (alone_of place head alone h)).solid
+head_plain place head alone h = solid_plain (head_spelling head) (head_atom Kept place head (alone_of place head alone h)).solid
 
 -- Terms. What fits of a term is what fits of its head and of its arguments.
 pub record Fits (place : Place) (root : RawHead) (terms : List RawTerm) : Type 0 where

@@ -123,14 +123,8 @@ names_marked nodes row ending old one two new found k root e so goes marks =
       few = so.few;
     }
 
-pub names_stop : (nodes : ℕ) (row : Row) (ending : Ending) (old one : List ℕ) (found : List (List ℕ)) (k : ℕ) (stop : Stop)
-    → NamesSoFar nodes row ending old one found → k ≡ length found → ((rest : List Want) → Stops stop (walk nodes (w.Row row 0 k ending ∷ rest) (pieces one)))
-    → (rest : List Want) → Stops stop (walk 0 (w.Row row 0 0 ending ∷ rest) (pieces old))
-names_stop nodes row ending old one found k stop so e h rest =
-    stops_later stop _ _ (so.walked rest) (subst (λ n. Stops stop (walk nodes (w.Row row 0 n ending ∷ rest) (pieces one))) e (h rest))
-
 -- the words of a term that was put together
-term_is : (layer : RawTerm-F RawTerm) → term_spelling (roll-RawTerm layer) ≡ head_spelling layer.head ++ spaced (map arg_spelling layer.args)
+pub term_is : (layer : RawTerm-F RawTerm) → term_spelling (roll-RawTerm layer) ≡ head_spelling layer.head ++ spaced (map arg_spelling layer.args)
 term_is layer = ap (λ l. head_spelling l.head ++ spaced (map arg_spelling l.args)) (out-roll-RawTerm layer)
 
 -- A whole term: a name and its arguments, or another atom.
@@ -160,7 +154,7 @@ root_named place ending old mid new bytes text terms more root took letters is r
 }
 
 pub root_leaf : (place : Place) (ending : Ending) (old mid new bytes : List ℕ) (head : RawHead) (args : List RawTerm) → TookWord 0 (w.Root place ending) old mid bytes
-    → is_word_of_letters bytes ≡ false → AtomRead place bytes head → args ≡ [] → BehindRead ending mid new → RootRead place ending old new (roll-RawTerm (record { head = head; args = args }))
+    → is_word_of_letters bytes ≡ false → AtomRead Kept place bytes head → args ≡ [] → BehindRead ending mid new → RootRead place ending old new (roll-RawTerm (record { head = head; args = args }))
 root_leaf place ending old mid new bytes head args took letters atom none behind_it =
     subst (λ l. RootRead place ending old new (roll-RawTerm (record { head = head; args = l }))) (sym none) (record {
       text = took.text ∙ ap (λ l. l ++ mid) (sym atom.text ∙ sym (append-nil (head_spelling head))) ∙ ap (λ l. (head_spelling head ++ []) ++ l) behind_it.text

@@ -53,8 +53,8 @@ row_at_end nodes row level count (e.Mark mark) old new ended = let h = ended.may
 row_at_end nodes row level count e.Line old new ended = record {
   text = ended.all ∙ sym ended.none;
   walked = λ rest. ap (λ l. walk nodes (w.Row row level count e.Line ∷ rest) (pieces l)) ended.all
-      ∙ walk_nil nodes (w.Row row level count e.Line ∷ rest) ∙ ap (λ b. end_fault (b && ends rest)) ended.may
-      ∙ sym (walk_nil 0 rest) ∙ ap (λ l. walk 0 rest (pieces l)) (sym ended.none);
+      ∙ walk_nil Kept nodes (w.Row row level count e.Line ∷ rest) ∙ ap (λ b. end_fault (b && ends rest)) ended.may
+      ∙ sym (walk_nil Kept 0 rest) ∙ ap (λ l. walk 0 rest (pieces l)) (sym ended.none);
   some = ended.may;
 }
 
@@ -154,7 +154,7 @@ pub leaf_depth : (head : RawHead) → depth (roll-RawTerm (record { head = head;
 leaf_depth head = fold-roll-RawTerm ℕ (λ term. 1 + largest term.args) (record { head = head; args = [] })
 
 pub item_word : (nodes : ℕ) (row : Row) (level count : ℕ) (ending : Ending) (old new bytes : List ℕ) (head : RawHead) → IsTermRow row level → pieces old ≡ word bytes ∷ pieces new → old ≡ bytes ++ new
-    → (is_mark ending bytes || (may_come Kept nodes row level count && is_item Kept row bytes)) ≡ true → is_mark ending bytes ≡ false → AtomRead (item_place row) bytes head
+    → (is_mark ending bytes || (may_come Kept nodes row level count && is_item Kept row bytes)) ≡ true → is_mark ending bytes ≡ false → AtomRead Kept (item_place row) bytes head
     → ItemRead nodes row level count ending old new (roll-RawTerm (record { head = head; args = [] })) (before_item row nodes + 1)
 item_word nodes row level count ending old new bytes head is_row first text taken h atom =
     let may = (both (may_come Kept nodes row level count) (is_item Kept row bytes) (taken_item _ _ taken h)).0 in

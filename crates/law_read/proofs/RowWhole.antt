@@ -175,11 +175,11 @@ item_bracket nodes row level count ending old mid new term more before place eb 
 
 pub item_leaf : (nodes : ℕ) (row : Row) (level count : ℕ) (ending : Ending) (old new bytes : List ℕ) (head : RawHead) (args : List RawTerm) (before : ℕ) (place : Place)
     → before ≡ before_item row nodes → place ≡ item_place row → args ≡ [] → IsTermRow row level → TookWord nodes (w.Item row level count ending) old new bytes
-    → is_mark ending bytes ≡ false → AtomRead place bytes head → ItemRead nodes row level count ending old new (roll-RawTerm (record { head = head; args = args })) (before + 1)
+    → is_mark ending bytes ≡ false → AtomRead Kept place bytes head → ItemRead nodes row level count ending old new (roll-RawTerm (record { head = head; args = args })) (before + 1)
 item_leaf nodes row level count ending old new bytes head args before place eb ep none is_row took h atom =
     subst (λ n. ItemRead nodes row level count ending old new (roll-RawTerm (record { head = head; args = args })) (n + 1)) (sym eb)
     (subst (λ l. ItemRead nodes row level count ending old new (roll-RawTerm (record { head = head; args = l })) (before_item row nodes + 1)) (sym none)
-    (item_word nodes row level count ending old new bytes head is_row took.first took.text took.taken h (subst (λ p. AtomRead p bytes head) ep atom)))
+    (item_word nodes row level count ending old new bytes head is_row took.first took.text took.taken h (subst (λ p. AtomRead Kept p bytes head) ep atom)))
 
 pub goes_of : (nodes : ℕ) (row : Row) (level count n : ℕ) (ending : Ending) (old new : List ℕ) (b : Bool) → RowStep nodes row level count ending old new b → b ≡ true → count ≡ n
     → RowGoes nodes row level n ending old new
@@ -199,9 +199,3 @@ row_kept nodes row level ending old one two new terms pushed mid term more k so 
   so_far = subst (λ l. RowSoFar nodes row level ending old new l more) (sym is)
       (row_more nodes row level ending old one two new terms mid term more so goes (subst (λ n. ItemRead mid row level n ending two new term more) e item));
 }
-
-pub row_stops : (nodes : ℕ) (row : Row) (level : ℕ) (ending : Ending) (old one : List ℕ) (terms : List RawTerm) (mid k : ℕ) (stop : Stop)
-    → RowSoFar nodes row level ending old one terms mid → k ≡ length terms → ((rest : List Want) → Stops stop (walk mid (w.Row row level k ending ∷ rest) (pieces one)))
-    → (rest : List Want) → Stops stop (walk nodes (w.Row row level 0 ending ∷ rest) (pieces old))
-row_stops nodes row level ending old one terms mid k stop so e h rest =
-    stops_later stop _ _ (so.walked rest) (subst (λ n. Stops stop (walk mid (w.Row row level n ending ∷ rest) (pieces one))) e (h rest))

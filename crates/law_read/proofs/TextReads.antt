@@ -14,9 +14,10 @@ use Rattle.law_read.specs.declared.want.Want.TheVariants as w
 use Rattle.law_read.specs.Spelling.{joined, sig_spelling, term_spelling, term_words}
 use Rattle.law_read.specs.Terms.{IsTerm}
 use Rattle.law_read.specs.Signature.{IsRawSig}
-use Rattle.law_read.specs.Walk.{walk}
-use Rattle.law_read.specs.Faults.{is_printed, is_spaced, term_fault}
+use Rattle.law_read.specs.Walk.{walk, term_fault}
+use Rattle.law_read.specs.Faults.{is_printed, is_spaced}
 use Rattle.law_read.specs.Texts.{IsReadAs, RefusedBy, TermRefused, TermTaken}
+use Rattle.law_read.specs.Laws.{OneTermFault}
 use Rattle.law_read.specs.Progress.{StoppedBy, TermFound}
 use Rattle.law_read.proofs.Again.{gap_on}
 use Rattle.law_read.proofs.AgainLines.{root_end}
@@ -24,6 +25,7 @@ use Rattle.law_read.proofs.Clean.{clean_term}
 use Rattle.law_read.proofs.CleanLines.{clean_joined, in_order}
 use Rattle.law_read.proofs.FirstFaults.{first_fault, refused_law}
 use Rattle.law_read.proofs.OneTerm.{one_term_law}
+use Rattle.law_read.proofs.PlacesFound.{one_term_kind, term_kind}
 use Rattle.law_read.proofs.Whole.{one_text_law}
 
 pub read_as : (text : List ℕ) (lines : List RawLine) → IsRawSig lines → sig_spelling lines ≡ text → IsReadAs text lines
@@ -41,12 +43,15 @@ term_read : (term : RawTerm) → IsTerm Kept p.Equation term → term_fault (ter
 term_read term h =
     let c = clean_joined (term_words term) (clean_term p.Equation term h) in
     in_order (list_all is_printed (term_spelling term)) (is_spaced (term_spelling term)) false (walk 0 (w.Root p.Equation e.Line ∷ []) (pieces (term_spelling term)))
-    c.0 c.1 refl (sym (gap_on 0 (w.Root p.Equation e.Line ∷ []) (joined (term_words term))) ∙ root_end p.Equation term h)
+    c.0 c.1 refl (sym (gap_on Kept 0 (w.Root p.Equation e.Line ∷ []) (joined (term_words term))) ∙ root_end Kept p.Equation term h)
 
 pub term_taken : (bytes : List ℕ) (term : RawTerm) → TermFound bytes term → TermTaken bytes term
 term_taken bytes term f = record { is_term = f.is_term; text = f.text; only = λ other h g. one_term_law p.Equation other term h f.is_term (g ∙ sym f.text) }
 
 pub term_refused : (bytes : List ℕ) (kind : ReadKind) → term_fault bytes ≡ Some kind → TermRefused bytes 1 kind
-term_refused bytes kind f = record { none = λ term h g. let n = term_read term h in let m = ap term_fault g in cc; first = refl; fault = f }
+term_refused bytes kind f = record { none = λ term h g. let n = term_read term h in let m = ap term_fault g in cc; first = refl; kind = term_kind bytes kind f }
+
+pub one_term_fault : OneTermFault
+one_term_fault bytes number other kind why f g = (f.first ∙ sym g.first, one_term_kind bytes kind why f.kind g.kind)
 
 pub ruleset term_steps = (term_taken, term_refused)

@@ -5,24 +5,24 @@ use Rattle.law_read.specs.declared.raw.RawLine.{RawLine}
 use Rattle.law_read.specs.declared.raw.RawTerm.{RawTerm}
 use Rattle.law_read.specs.declared.want.Place.{Place}
 use Rattle.law_read.specs.declared.want.Want.TheVariants as w
+use Rattle.law_read.specs.declared.want.Bounds.{Bounds}
 use Rattle.law_read.specs.declared.want.Bounds.TheVariants.{Kept}
 use Rattle.law_read.specs.declared.stage.Stage.{Stage}
 use Rattle.law_read.specs.Spelling.{line_spelling, sig_spelling, term_spelling}
 use Rattle.law_read.specs.Terms.{IsTerm}
 use Rattle.law_read.specs.Signature.{IsRawSig}
-use Rattle.law_read.specs.Texts.{FirstFault}
+use Rattle.law_read.specs.Texts.{FirstFault, TermRefused}
 use Rattle.law_read.specs.declared.error.ReadKind.{ReadKind}
 use Rattle.law_read.specs.Lines.{IsLine}
 use Rattle.law_read.specs.Stages.{IsOfVersion, allows, line_key}
-use Rattle.law_read.specs.Walk.{walk}
-use Rattle.law_read.specs.Faults.{line_fault}
+use Rattle.law_read.specs.Walk.{walk_in, line_fault}
 
--- A line that may come at a stage and that the grammar spells is read to its end.
+-- A line that may come at a stage and that the grammar spells, with its bounds or without them, is read to its end.
 abbrev pub SpelledIsWalked : Type 0
-SpelledIsWalked = (stage : Stage) (line : RawLine) → allows stage (line_key line) ≡ true → IsOfVersion stage.version line → IsLine Kept line
-    → walk 0 (w.Key stage ∷ []) (pieces (line_spelling line)) ≡ None
+SpelledIsWalked = (bounds : Bounds) (stage : Stage) (line : RawLine) → allows stage (line_key line) ≡ true → IsOfVersion stage.version line → IsLine bounds line
+    → walk_in bounds 0 (w.Key stage ∷ []) (pieces (line_spelling line)) ≡ None
 
--- It has no fault. So a line that has one is the spelling of no line that may come at the stage.
+-- One within the bounds has no fault. So a line that has one is the spelling of no line that may come at the stage.
 abbrev pub SpelledIsRead : Type 0
 SpelledIsRead = (stage : Stage) (line : RawLine) → allows stage (line_key line) ≡ true → IsOfVersion stage.version line → IsLine Kept line
     → line_fault stage (line_spelling line) ≡ None
@@ -44,6 +44,9 @@ RefusedIsNoText = (text : List ℕ) (number : ℕ) (kind : ReadKind) → FirstFa
 
 abbrev pub OneFault : Type 0
 OneFault = (text : List ℕ) (number other : ℕ) (kind why : ReadKind) → FirstFault text number kind → FirstFault text other why → (number ≡ other) × (kind ≡ why)
+
+abbrev pub OneTermFault : Type 0
+OneTermFault = (bytes : List ℕ) (number other : ℕ) (kind why : ReadKind) → TermRefused bytes number kind → TermRefused bytes other why → (number ≡ other) × (kind ≡ why)
 
 -- A text is the spelling of one signature at most.
 abbrev pub OneText : Type 0

@@ -1,60 +1,86 @@
 -- Why a line has no reading: its kind, and its first place that has none.
-use Rattle.std.specs.Prelude.{◌≡◌, ℕ, Bool, true, false, List, [], ◌∷◌, ◌++◌}
-use Rattle.std.specs.List.{list_all}
+use Rattle.std.specs.Prelude.{◌≡◌, ℕ, Bool, true, false, List, [], ◌∷◌, ◌++◌, map, codes, ◌⊎◌}
+use Rattle.std.specs.List.{AllByRecursion, list_all}
 use Rattle.law_text.specs.Pieces.{Piece, pieces}
+use Rattle.law_text.specs.Pieces.Piece.{space, opening, closing, word}
 use Rattle.law_read.specs.declared.raw.RawLine.{RawLine}
-use Rattle.law_read.specs.declared.want.Want.{Want}
-use Rattle.law_read.specs.declared.want.Want.TheVariants as w
+use Rattle.law_read.specs.declared.raw.RawTerm.{RawTerm}
+use Rattle.law_read.specs.declared.want.Bounds.{Bounds}
+use Rattle.law_read.specs.declared.want.Bounds.TheVariants.{Kept, Free}
+use Rattle.law_read.specs.declared.want.Place.TheVariants.{Equation}
 use Rattle.law_read.specs.declared.error.ReadKind.{ReadKind}
 use Rattle.law_read.specs.declared.error.ReadKind.TheVariants as k
-use Rattle.law_read.specs.Spelling.{line_spelling}
-use Rattle.law_read.specs.Signature.{IsRawSig}
+use Rattle.law_read.specs.Spelling.{line_spelling, term_spelling}
+use Rattle.law_read.specs.Terms.{IsTerm}
+use Rattle.law_read.specs.Lines.{IsLine}
+use Rattle.law_read.specs.Grammar.{Spells}
+use Rattle.law_read.specs.Order.{order, shape_of}
 use Rattle.law_read.specs.Stages.{stage_behind, start}
+use Rattle.law_read.specs.Numbers.{cut, is_number, is_bad_index, is_bad_behind}
 use Rattle.law_read.specs.Faults.{is_closed_by, is_printed, is_spaced}
-use Rattle.law_read.specs.Walk.{State, kind_at, moved}
 
--- Some signature has, behind these lines, a line that begins with these pieces.
-pub record Begun (before : List RawLine) (front : List Piece) : Type 0 where
+-- Some signature of the grammar with these bounds has, behind these lines, a line that begins with these pieces.
+pub record Begun (before : List RawLine) (bounds : Bounds) (front : List Piece) : Type 0 where
   pub line : RawLine
   pub after : List RawLine
-  pub signature : IsRawSig (before ++ line ∷ after)
+  pub in_order : Spells order (map shape_of (before ++ line ∷ after))
+  pub each : AllByRecursion (IsLine bounds) (before ++ line ∷ after)
   pub rest : List Piece
   pub begins : pieces (line_spelling line) ≡ front ++ rest
 
--- what is wanted behind pieces that are taken
-abbrev pub wanted : ℕ → List Want → List Piece → State
-wanted nodes wants [] = record { nodes = nodes; wants = wants }
-wanted nodes [] (piece ∷ front) = record { nodes = nodes; wants = [] }
-wanted nodes (want ∷ rest) (piece ∷ front) = wanted (moved nodes want rest piece).nodes (moved nodes want rest piece).wants front
+-- Some term of equations of the grammar with these bounds begins with these pieces.
+pub record BegunTerm (bounds : Bounds) (front : List Piece) : Type 0 where
+  pub term : RawTerm
+  pub is_term : IsTerm bounds Equation term
+  pub rest : List Piece
+  pub begins : pieces (term_spelling term) ≡ front ++ rest
 
-abbrev pub kind_wanted : ℕ → List Want → Piece → ReadKind
-kind_wanted nodes [] piece = k.Word
-kind_wanted nodes (want ∷ rest) piece = kind_at nodes want piece
+-- What stands at a place is at fault for its number: it is a word that isn't a number where `0` may stand; or its index, or
+-- the number behind its `#` or `@`, isn't one where a variable, a parameter or a field may stand. May stand in the grammar
+-- without its bounds: behind an eighth argument a number is still looked at.
+abbrev pub NumberFault : (Bounds → List Piece → Type 0) → List Piece → Piece → Type 0
+NumberFault Begins front space = ⊥
+NumberFault Begins front opening = ⊥
+NumberFault Begins front closing = ⊥
+NumberFault Begins front (word bytes) =
+    ((is_number bytes ≡ false) × Begins Free (front ++ word (codes "0") ∷ []))
+    ⊎ (((is_bad_index (cut bytes) ≡ true) × Begins Free (front ++ word (codes "A.0") ∷ []))
+    ⊎ (((is_bad_behind 35 bytes ≡ true) × Begins Free (front ++ word (codes "#0") ∷ []))
+    ⊎ ((is_bad_behind 64 bytes ≡ true) × Begins Free (front ++ word (codes "@0") ∷ []))))
 
-abbrev pub place_kind : State → Piece → ReadKind
-place_kind state piece = kind_wanted state.nodes state.wants piece
+-- The kind of a piece that nothing has behind these pieces: its number is at fault; else a bound alone is, where the grammar
+-- without its bounds has it there; or it is wrong altogether.
+abbrev pub PieceKind : (Bounds → List Piece → Type 0) → List Piece → Piece → ReadKind → Type 0
+PieceKind Begins front piece k.Number = NumberFault Begins front piece
+PieceKind Begins front piece k.TooLong = (NumberFault Begins front piece → ⊥) × Begins Free (front ++ piece ∷ [])
+PieceKind Begins front piece k.Word = (NumberFault Begins front piece → ⊥) × (Begins Free (front ++ piece ∷ []) → ⊥)
+PieceKind Begins front piece kind = ⊥
 
--- The line ends there, or has a piece there with which it begins no line.
-abbrev pub StopsThere : List RawLine → List Piece → List Piece → ReadKind → Type 0
-StopsThere before front [] kind = kind ≡ k.Missing
-StopsThere before front (piece ∷ rest) kind =
-    (Begun before (front ++ piece ∷ []) → ⊥) × (kind ≡ place_kind (wanted 0 (w.Key (stage_behind start before) ∷ []) front) piece)
+-- The line ends there, or has a piece there with which nothing begins.
+abbrev pub StopsThere : (Bounds → List Piece → Type 0) → List Piece → List Piece → ReadKind → Type 0
+StopsThere Begins front [] kind = kind ≡ k.Missing
+StopsThere Begins front (piece ∷ rest) kind = (Begins Kept (front ++ piece ∷ []) → ⊥) × PieceKind Begins front piece kind
 
 -- What stands before the place begins a line; with the place it doesn't.
-pub record FirstPlace (before : List RawLine) (line : List ℕ) (kind : ReadKind) : Type 0 where
+pub record FirstPlace (Begins : Bounds → List Piece → Type 0) (line : List ℕ) (kind : ReadKind) : Type 0 where
   pub front : List Piece
   pub rest : List Piece
   pub split : pieces line ≡ front ++ rest
-  pub begins : Begun before front
-  pub stops : StopsThere before front rest kind
+  pub begins : Begins Kept front
+  pub stops : StopsThere Begins front rest kind
 
--- The kind of a line that has no reading behind these: the first of these that applies. A byte is out of range; a space
--- leads, trails or is doubled; the line stands behind `end`; or its first place without a reading decides.
-abbrev pub KindBy : Bool → Bool → Bool → List RawLine → List ℕ → ReadKind → Type 0
-KindBy false spaced closed before line kind = kind ≡ k.Byte
-KindBy true false closed before line kind = kind ≡ k.Doubled
-KindBy true true true before line kind = kind ≡ k.Word
-KindBy true true false before line kind = FirstPlace before line kind
+-- The first of these that applies: a byte is out of range; a space leads, trails or is doubled; the line stands behind `end`;
+-- or its first place without a reading decides.
+abbrev pub KindBy : Bool → Bool → Bool → (Bounds → List Piece → Type 0) → List ℕ → ReadKind → Type 0
+KindBy false spaced closed Begins line kind = kind ≡ k.Byte
+KindBy true false closed Begins line kind = kind ≡ k.Doubled
+KindBy true true true Begins line kind = kind ≡ k.Word
+KindBy true true false Begins line kind = FirstPlace Begins line kind
 
+-- the kind of a line that has no reading behind these
 abbrev pub LineKind : List RawLine → List ℕ → ReadKind → Type 0
-LineKind before line kind = KindBy (list_all is_printed line) (is_spaced line) (is_closed_by (stage_behind start before).last) before line kind
+LineKind before line kind = KindBy (list_all is_printed line) (is_spaced line) (is_closed_by (stage_behind start before).last) (Begun before) line kind
+
+-- the kind of bytes that are the spelling of no term of equations
+abbrev pub TermKind : List ℕ → ReadKind → Type 0
+TermKind bytes kind = KindBy (list_all is_printed bytes) (is_spaced bytes) false BegunTerm bytes kind

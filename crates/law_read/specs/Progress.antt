@@ -11,7 +11,8 @@ use Rattle.law_read.specs.Spelling.{line_spelling, sig_spelling, term_spelling}
 use Rattle.law_read.specs.Lines.{IsLine}
 use Rattle.law_read.specs.Signature.{IsRawSig}
 use Rattle.law_read.specs.Stages.{InOrder, start, stage_behind}
-use Rattle.law_read.specs.Faults.{is_closed_by, line_fault, term_fault}
+use Rattle.law_read.specs.Faults.{is_closed_by}
+use Rattle.law_read.specs.Walk.{line_fault, term_fault}
 use Rattle.law_read.specs.Terms.{IsTerm}
 use Rattle.law_read.specs.declared.raw.RawTerm.{RawTerm}
 use Rattle.law_read.specs.declared.want.Place.TheVariants as p

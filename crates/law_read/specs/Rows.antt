@@ -6,6 +6,7 @@ use Rattle.law_read.specs.declared.raw.RawHead.{RawHead}
 use Rattle.law_read.specs.declared.raw.RawTerm.{RawTerm}
 use Rattle.law_read.specs.declared.want.Want.{Want}
 use Rattle.law_read.specs.declared.want.Want.TheVariants as w
+use Rattle.law_read.specs.declared.want.Bounds.{Bounds}
 use Rattle.law_read.specs.declared.want.Bounds.TheVariants.{Kept}
 use Rattle.law_read.specs.declared.want.Place.{Place}
 use Rattle.law_read.specs.declared.want.Row.{Row}
@@ -133,9 +134,9 @@ pub record RootRead (place : Place) (ending : Ending) (old new : List ℕ) (term
   pub is_term : IsTerm Kept place term
 
 -- an atom stands for this head
-pub record AtomRead (place : Place) (bytes : List ℕ) (head : RawHead) : Type 0 where
+pub record AtomRead (bounds : Bounds) (place : Place) (bytes : List ℕ) (head : RawHead) : Type 0 where
   pub text : head_spelling head ≡ bytes
-  pub fits : head_fits Kept place head true ≡ true
+  pub fits : head_fits bounds place head true ≡ true
 
 abbrev pub IsRootEnding : Ending → Type 0
 IsRootEnding e.Line = Unit {0}

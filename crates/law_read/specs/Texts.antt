@@ -1,5 +1,5 @@
 -- Whole texts: what has a reading, and the first line that has none.
-use Rattle.std.specs.Prelude.{◌≡◌, ℕ, ◌+◌, ◌-◌, ◌^◌, Bool, false, ◌==◌, List, [], ◌∷◌, ◌++◌, length, map, min, Some, ◌⊎◌}
+use Rattle.std.specs.Prelude.{◌≡◌, ℕ, ◌+◌, ◌-◌, ◌^◌, Bool, false, ◌==◌, List, [], ◌∷◌, ◌++◌, length, map, min, ◌⊎◌}
 use Rattle.std.specs.List.{AllByRecursion, list_any}
 use Rattle.law_read.specs.declared.raw.RawLine.{RawLine}
 use Rattle.law_read.specs.declared.raw.RawTerm.{RawTerm}
@@ -12,8 +12,7 @@ use Rattle.law_read.specs.declared.error.ReadErr.TheVariants as error
 use Rattle.law_read.specs.Spelling.{line_spelling, sig_spelling, term_spelling, text_of}
 use Rattle.law_read.specs.Terms.{IsTerm}
 use Rattle.law_read.specs.Signature.{IsRawSig}
-use Rattle.law_read.specs.Places.{LineKind}
-use Rattle.law_read.specs.Faults.{term_fault}
+use Rattle.law_read.specs.Places.{LineKind, TermKind}
 
 abbrev pub has_feed : List ℕ → Bool
 has_feed bytes = list_any (λ b. b == 10) bytes
@@ -97,10 +96,10 @@ pub record TermTaken (bytes : List ℕ) (term : RawTerm) : Type 0 where
   pub only : (other : RawTerm) → IsTerm Kept p.Equation other → term_spelling other ≡ bytes → other ≡ term
 
 -- They are the spelling of none, and why.
-pub record TermRefused (bytes : List ℕ) (number : ℕ) (kind : ReadKind) : Type 0 where
+pub record TermRefused (bytes : List ℕ) (number : ℕ) (why : ReadKind) : Type 0 where
   pub none : (term : RawTerm) → IsTerm Kept p.Equation term → term_spelling term ≡ bytes → ⊥
   pub first : number ≡ 1
-  pub fault : term_fault bytes ≡ Some kind
+  pub kind : TermKind bytes why
 
 abbrev pub TermFault : List ℕ → ReadErr → Type 0
 TermFault bytes (error.Form number kind) = TermRefused bytes number kind

@@ -1,10 +1,11 @@
 -- A line read from left to right, piece by piece. What is still wanted is a list; a piece is taken or
--- not, and changes what is wanted. Readings are proved by this walk: what a line must be is said by its
--- spelling, and what a fault is by `Faults`.
-use Rattle.std.specs.Prelude.{ℕ, ◌+◌, ◌^◌, Bool, true, false, ◌&&◌, ◌||◌, not, nat_lt, ◌==◌, List, [], ◌∷◌, ◌++◌, Option, Some, None, codes, is_some}
+-- not, and changes what is wanted. It serves proofs alone: what a line must be is said by its spelling, and
+-- what a fault is by `Places`.
+use Rattle.std.specs.Prelude.{ℕ, ◌+◌, Bool, true, false, ◌&&◌, ◌||◌, not, nat_lt, ◌==◌, List, [], ◌∷◌, ◌++◌, Option, Some, None, codes}
 use Rattle.std.specs.Str.{bytes_eq}
-use Rattle.law_text.specs.Words.{is_word_of_letters, number_below}
-use Rattle.law_text.specs.Pieces.{Piece}
+use Rattle.std.specs.List.{list_all}
+use Rattle.law_text.specs.Words.{is_word_of_letters}
+use Rattle.law_text.specs.Pieces.{Piece, pieces}
 use Rattle.law_text.specs.Pieces.Piece.{space, opening, closing, word}
 use Rattle.law_read.specs.declared.want.Bounds.{Bounds}
 use Rattle.law_read.specs.declared.want.Bounds.TheVariants.{Kept, Free}
@@ -27,28 +28,14 @@ use Rattle.law_read.specs.declared.stage.Key.TheVariants as key
 use Rattle.law_read.specs.declared.stage.Stage.{Stage}
 use Rattle.law_read.specs.Stages.{allows, key_text}
 use Rattle.law_read.specs.Terms.{within, is_name_in}
+use Rattle.law_read.specs.Numbers.{cut, is_index, is_number, is_bad_index, is_bad_behind}
+use Rattle.law_read.specs.Faults.{is_closed_by, is_printed, is_spaced}
 
 abbrev pub mark_text : Mark → List ℕ
 mark_text Equals = codes "="
 mark_text Arrow = codes "->"
 mark_text Height = codes "height"
 mark_text Count = codes "count"
-
-abbrev pub is_number : List ℕ → Bool
-is_number bytes = is_some (number_below (2 ^ 63) bytes)
-
-abbrev pub is_index : List ℕ → Bool
-is_index bytes = is_some (number_below (2 ^ 32) bytes)
-
--- what stands before and behind the first dot
-abbrev pub cut_by : Bool → ℕ → List ℕ → Option (List ℕ × List ℕ) → Option (List ℕ × List ℕ)
-cut_by true b bs parts = Some ([], bs)
-cut_by false b bs None = None
-cut_by false b bs (Some parts) = Some (b ∷ parts.0, parts.1)
-
-abbrev pub cut : List ℕ → Option (List ℕ × List ℕ)
-cut [] = None
-cut (b ∷ bs) = cut_by (b == 46) b bs (cut bs)
 
 abbrev pub is_variable : Bounds → Option (List ℕ × List ℕ) → Bool
 is_variable bounds None = false
@@ -168,25 +155,16 @@ takes bounds nodes want opening = takes_opening bounds nodes want
 takes bounds nodes want closing = takes_closing want
 takes bounds nodes want (word bytes) = takes_word bounds nodes want bytes
 
--- Words like this one whose number is put right: where a number stands that isn't one, one of these
--- would be taken in its place.
-abbrev pub mended_index : Option (List ℕ × List ℕ) → Bool
-mended_index None = false
-mended_index (Some parts) = not (is_index parts.1)
-
-abbrev pub mended_sign : ℕ → List ℕ → Bool
-mended_sign sign [] = false
-mended_sign sign (b ∷ bs) = b == sign && not (is_index bs)
-
+-- Where a number stands that isn't one, a word like it with its number put right would be taken.
 abbrev pub is_mended : ℕ → Want → List ℕ → Bool
 is_mended nodes want bytes = (not (is_number bytes) && takes_word Free nodes want (codes "0"))
-    || ((mended_index (cut bytes) && takes_word Free nodes want (codes "A.0"))
-    || ((mended_sign 35 bytes && takes_word Free nodes want (codes "#0"))
-    || (mended_sign 64 bytes && takes_word Free nodes want (codes "@0"))))
+    || ((is_bad_index (cut bytes) && takes_word Free nodes want (codes "A.0"))
+    || ((is_bad_behind 35 bytes && takes_word Free nodes want (codes "#0"))
+    || (is_bad_behind 64 bytes && takes_word Free nodes want (codes "@0"))))
 
 abbrev pub kind_by : Bool → Bool → ReadKind
-kind_by true number = k.TooLong
-kind_by false true = k.Number
+kind_by true free = k.Number
+kind_by false true = k.TooLong
 kind_by false false = k.Word
 
 abbrev pub number_fault : ℕ → Want → Piece → Bool
@@ -195,7 +173,7 @@ number_fault nodes want piece = false
 
 -- The kind of a place that isn't taken.
 abbrev pub kind_at : ℕ → Want → Piece → ReadKind
-kind_at nodes want piece = kind_by (takes Free nodes want piece) (number_fault nodes want piece)
+kind_at nodes want piece = kind_by (number_fault nodes want piece) (takes Free nodes want piece)
 
 -- what a line has behind its key
 abbrev pub setting : List Want
@@ -311,9 +289,27 @@ abbrev pub step : Bool → ReadKind → Option ReadKind → Option ReadKind
 step true kind further = further
 step false kind further = Some kind
 
--- The kind of the first place that isn't taken; `None` where all are and the line may end.
-unfoldable pub walk : ℕ → List Want → List Piece → Option ReadKind
-walk nodes wants [] = end_fault (ends wants)
-walk nodes [] (piece ∷ pieces) = Some k.Word
-walk nodes (want ∷ rest) (piece ∷ pieces) = step (takes Kept nodes want piece) (kind_at nodes want piece)
-    (walk (moved nodes want rest piece).nodes (moved nodes want rest piece).wants pieces)
+-- The kind of the first place that isn't taken under these bounds; `None` where all are and the line may end.
+unfoldable pub walk_in : Bounds → ℕ → List Want → List Piece → Option ReadKind
+walk_in bounds nodes wants [] = end_fault (ends wants)
+walk_in bounds nodes [] (piece ∷ pieces) = Some k.Word
+walk_in bounds nodes (want ∷ rest) (piece ∷ pieces) = step (takes bounds nodes want piece) (kind_at nodes want piece)
+    (walk_in bounds (moved nodes want rest piece).nodes (moved nodes want rest piece).wants pieces)
+
+abbrev pub walk : ℕ → List Want → List Piece → Option ReadKind
+walk nodes wants pieces = walk_in Kept nodes wants pieces
+
+abbrev pub kind_in_order : Bool → Bool → Bool → Option ReadKind → Option ReadKind
+kind_in_order false spaced closed place = Some k.Byte
+kind_in_order true false closed place = Some k.Doubled
+kind_in_order true true true place = Some k.Word
+kind_in_order true true false place = place
+
+-- The kind of a line that may not come at this stage: a byte out of range, a space too many, a line
+-- behind `end`, and else the first place of the line that has no reading.
+abbrev pub line_fault : Stage → List ℕ → Option ReadKind
+line_fault stage line = kind_in_order (list_all is_printed line) (is_spaced line) (is_closed_by stage.last) (walk 0 (w.Key stage ∷ []) (pieces line))
+
+-- the same of a term by itself
+abbrev pub term_fault : List ℕ → Option ReadKind
+term_fault bytes = kind_in_order (list_all is_printed bytes) (is_spaced bytes) false (walk 0 (w.Root p.Equation e.Line ∷ []) (pieces bytes))

@@ -1,4 +1,4 @@
-ghost use Rattle.law_read.specs.Laws.{OneFault, OneTerm, OneText, ReadIsSpelled, RefusedIsNoText, SpelledIsRead, SpelledIsWalked};
+ghost use Rattle.law_read.specs.Laws.{OneFault, OneTerm, OneTermFault, OneText, ReadIsSpelled, RefusedIsNoText, SpelledIsRead, SpelledIsWalked};
 
 /// Each line that may come at a stage and that the grammar spells is read to its end, and has no fault; and a
 /// line without a fault is the spelling of one that may come.
@@ -8,10 +8,12 @@ pub fn spelled_lines_are_read()
     ensures spelled { ReadIsSpelled }
 {}
 
-/// A text with a first fault is the spelling of no signature, and it has no other first fault.
+/// A text with a first fault is the spelling of no signature, and it has no other first fault; and a term is
+/// refused for one reason.
 pub fn refused_texts_are_none()
     ensures none { RefusedIsNoText }
     ensures one { OneFault }
+    ensures term { OneTermFault }
 {}
 
 /// A text is the spelling of one signature at most, and of one term at most.

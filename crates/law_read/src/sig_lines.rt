@@ -1,6 +1,7 @@
 ghost use Rattle.std.specs.Prelude.{◌≡◌, Bool, true, List, [], ◌∷◌, ◌++◌, length, None, Some, IfOk, OnErr, IfErr, MatchResult, min, ◌+◌, ◌-◌, ◌^◌};
 ghost use Rattle.std.specs.List.{list_all};
-ghost use Rattle.law_read.specs.Faults.{is_closed_by, is_printed, is_spaced, line_fault, spaces_fit};
+ghost use Rattle.law_read.specs.Faults.{is_closed_by, is_printed, is_spaced, spaces_fit};
+ghost use Rattle.law_read.specs.Walk.{line_fault};
 ghost use Rattle.law_read.specs.Progress.{Added, Finished, LineTaken, NotFinished, Refused};
 ghost use Rattle.law_read.specs.Texts.{next_number};
 ghost use Rattle.law_read.specs.Reads.{Stops};

@@ -6,7 +6,8 @@ ghost use Rattle.law_read.specs.declared.want.Ending.TheVariants as e;
 ghost use Rattle.law_read.specs.declared.want.Bounds.TheVariants.{Kept};
 ghost use Rattle.law_read.specs.declared.want.Want.{Want};
 ghost use Rattle.law_read.specs.declared.want.Place.TheVariants as p;
-ghost use Rattle.law_read.specs.Walk.{before_item, behind, cut, is_atom, is_numbered, is_variable, item_place, walk};
+ghost use Rattle.law_read.specs.Walk.{before_item, behind, is_atom, is_numbered, is_variable, item_place, walk};
+ghost use Rattle.law_read.specs.Numbers.{cut};
 ghost use Rattle.law_read.specs.Reads.{Stops, StopsAt};
 ghost use Rattle.law_read.specs.Rows.{AtomRead, BehindRead, BracketRead, IsNameRow, IsRootEnding, IsTermRow, ItemStep, NamesRead, NameStep, RootRead, RowRead, RowStep};
 
@@ -40,7 +41,7 @@ fn before_item(row: Row, nodes: u32) -> u32
 /// The head that an atom stands for.
 fn atom(alloc: Global, place: Place, bytes: &[u8]) -> Result<RawHead, NoMemory>
     requires { IsTrue (is_atom Kept place bytes.now) }
-    ensures { IfOk result (λ head. AtomRead place bytes.now head) }
+    ensures { IfOk result (λ head. AtomRead Kept place bytes.now head) }
 {
     if is_name(bytes) {
         return Ok(RawHead::Name(owned(alloc, bytes)?));
@@ -54,7 +55,7 @@ fn atom(alloc: Global, place: Place, bytes: &[u8]) -> Result<RawHead, NoMemory>
 
 fn variable(alloc: Global, bytes: &[u8]) -> Result<RawHead, NoMemory>
     requires { IsTrue (is_variable Kept (cut bytes.now)) }
-    ensures { IfOk result (λ head. AtomRead p.Equation bytes.now head) }
+    ensures { IfOk result (λ head. AtomRead Kept p.Equation bytes.now head) }
 {
     match cut(bytes) {
         None => unreachable!(),
@@ -67,7 +68,7 @@ fn variable(alloc: Global, bytes: &[u8]) -> Result<RawHead, NoMemory>
 
 fn numbered(bytes: &[u8]) -> Result<RawHead, NoMemory>
     requires { IsTrue (is_numbered bytes.now) }
-    ensures { IfOk result (λ head. AtomRead p.Body bytes.now head) }
+    ensures { IfOk result (λ head. AtomRead Kept p.Body bytes.now head) }
 {
     match bytes {
         [] => unreachable!(),

@@ -9,5 +9,5 @@ use Rattle.law_types.specs.declared.errors.TypeErr.{TypeErr}
 use Rattle.law_sig.specs.declared.parts.SigParts.{SigParts}
 
 pub returns-in-Err-At : goal.returns-in-Err-At
-returns-in-Err-At c = refused (sig_spelling c.args.raw.now) (status.Form c.in-Err-At.line (form.Sort c.in-Err-At.kind)) c.refusal.result
-    (record { lines = c.args.raw.now; text = record { raw = c.requires.raw; spelled = refl }; fault = subst (λ (e : TypeErr). TellsFault {A = SigParts} (Err e) (first_fault c.args.raw.now)) c.in-Err-At.field-0-is c.in-Err-At.ensures.first }) c.refusal.ensures
+returns-in-Err-At c = refused (sig_spelling c.args.raw) (status.Form c.in-Err-At.line (form.Sort c.in-Err-At.kind)) c.refusal.result
+    (record { lines = c.args.raw; text = record { raw = c.requires; spelled = refl }; fault = subst (λ (e : TypeErr). TellsFault {A = SigParts} (Err e) (first_fault c.args.raw)) c.in-Err-At.field-0-is c.in-Err-At.ensures.first }) c.refusal.ensures

@@ -1,43 +1,12 @@
-use Rattle.std.proofs.Common.{◌∙◌}
-use Rattle.law_sig.specs.Tests.{assignments}
-use Rattle.law_sig.specs.Counts.{term_count}
-use Rattle.law_gen.specs.Draws.{pools_by}
-use Rattle.law_pool.proofs.Reading.{grows_on}
-use Rattle.law_explore.specs.Refusals.{HasBrokenBackground, HasLackingTerm, IsRefusal}
-use Rattle.law_explore.proofs.Testing.{pools_stay}
-use Rattle.law_explore.proofs.Breaking.{handed_on}
-use Rattle.law_explore.proofs.RefusalFacts.{limit_kept, refused_background, refused_term}
-use Rattle.law_explore.proofs.ListedFacts.{law_list_is}
+use Rattle.std.proofs.Common.{ap₂, ◌∙◌}
+use Rattle.law_explore.specs.Named.{named_list}
 use Rattle.law_explore.proofs.listed.plain.Goals as goal
 
-pub returns-in_err-check_background-clause-refused : goal.returns-in_err-check_background-clause-refused
-returns-in_err-check_background-clause-refused c =
-    let few = limit_kept 4096 (assignments c.args.sig.now) c.in-Some.field-0 c.assignments.result c.assignments.ensures c.in-Some.is in
-    let short = limit_kept c.args.terms (term_count c.args.sig.now) c.in-Some-2.field-0 c.in_ok-terms_up_to.field-0 c.in_ok-terms_up_to.ensures c.in-Some-2.is in
-    handed_on c.args.sig.now (HasBrokenBackground c.args.sig.now (pools_by c.args.sig.now)) (IsRefusal c.args.sig.now c.args.terms) c.from_residual-in_err-check_background.result _
-    (refused_background c.args.sig.now c.args.terms few short c.in_ok-pools.ensures.small) c.from_residual-in_err-check_background.ensures.1 c.in_err-check_background.ensures.breaks
-
-pub laws-requires : goal.laws-requires
-laws-requires c = pools_stay c.args.sig.now c.pools_of.new.bank c.check_background.new.bank c.in_ok-pools.pools c.check_background.ensures.grows c.in_ok-pools.ensures.pools
-
-pub returns-in_err-laws-clause-refused : goal.returns-in_err-laws-clause-refused
-returns-in_err-laws-clause-refused c =
-    let few = limit_kept 4096 (assignments c.args.sig.now) c.in-Some.field-0 c.assignments.result c.assignments.ensures c.in-Some.is in
-    let short = limit_kept c.args.terms (term_count c.args.sig.now) c.in-Some-2.field-0 c.in_ok-terms_up_to.field-0 c.in_ok-terms_up_to.ensures c.in-Some-2.is in
-    handed_on c.args.sig.now (HasLackingTerm c.args.sig.now (pools_by c.args.sig.now)) (IsRefusal c.args.sig.now c.args.terms) c.from_residual-in_err-laws.result _
-    (refused_term c.args.sig.now c.args.terms few short c.in_ok-pools.ensures.small c.in_ok-check_background.ensures.holds) c.from_residual-in_err-laws.ensures.1 c.in_err-laws.ensures.lacks
-
-pub written-requires : goal.written-requires
-written-requires c =
-    let pools = pools_stay c.args.sig.now c.pools_of.new.bank c.laws.new.bank c.in_ok-pools.pools
-    (grows_on c.pools_of.new.bank c.check_background.new.bank c.laws.new.bank c.check_background.ensures.grows c.laws.ensures.grows) c.in_ok-pools.ensures.pools in
-    pools.held
-
 pub returns-clause-listed : goal.returns-clause-listed
-returns-clause-listed c =
-    let few = limit_kept 4096 (assignments c.args.sig.now) c.in-Some.field-0 c.assignments.result c.assignments.ensures c.in-Some.is in
-    let short = limit_kept c.args.terms (term_count c.args.sig.now) c.in-Some-2.field-0 c.in_ok-terms_up_to.field-0 c.in_ok-terms_up_to.ensures c.in-Some-2.is in
-    let pools = pools_stay c.args.sig.now c.pools_of.new.bank c.laws.new.bank c.in_ok-pools.pools
-    (grows_on c.pools_of.new.bank c.check_background.new.bank c.laws.new.bank c.check_background.ensures.grows c.laws.ensures.grows) c.in_ok-pools.ensures.pools in
-    law_list_is c.args.sig.now c.args.terms c.in_ok-pools-2.pools c.in_ok-laws.laws few short c.in_ok-pools.ensures.small c.in_ok-check_background.ensures.holds
-    c.in_ok-laws.ensures.laws (c.in_ok-pools-2.ensures ∙ pools.are)
+returns-clause-listed c = record {
+  pools = c.in_ok-pools.field-0.pools;
+  laws = c.in_ok-pools.field-0.laws;
+  list_of = c.in_ok-pools.ensures.listed;
+  named = c.in_ok-named_list.ensures.named ∙ ap₂ (named_list c.args.raw c.args.sig.now) c.as_slice.ensures c.as_slice-2.ensures;
+  spelled = c.in_ok-named_list.ensures.spelled;
+}

@@ -1,5 +1,5 @@
 use Rattle.std.proofs.Common.{◌≡◌, take, drop}
-use Rattle.law_read.specs.Walk.{cut}
+use Rattle.law_read.specs.Numbers.{cut}
 use Rattle.law_read.proofs.Cuts.{with_front}
 use Rattle.law_read.proofs.take.cut.Given as goal
 
