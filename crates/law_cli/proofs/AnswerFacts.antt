@@ -42,4 +42,3 @@ pub check_refused : (Read : List ℕ → Type 0) (s : Status) (made : Result Ans
     → IfOk made (λ (a : Answer). (a.status ≡ s) × (a.text ≡ status_text s)) → IfOk made (λ (a : Answer). (bytes : List ℕ) → Read bytes → IsCheckAnswer bytes a.status a.text)
 check_refused Read s (Err e) cause is = tt
 check_refused Read s (Ok a) cause is = λ bytes read. by_line (IsYesText bytes) (CheckCause bytes) s a (λ h. h) (cause bytes read) is
-

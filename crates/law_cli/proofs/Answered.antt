@@ -1,15 +1,13 @@
 -- What was printed whole is the answer to what was read.
-use Rattle.std.proofs.Common.{◌≡◌, ◌≢◌, ◌⊎◌, inl, inr, Option, ℕ, List, [], ◌∷◌, get_or, if◌then◌else◌, ◌==◌, ◌≤◌, length, refl, sym, ap, ◌∙◌, subst}
+use Rattle.std.proofs.Common.{◌≡◌, ◌≢◌, ◌⊎◌, inl, inr, Option, ℕ, List, [], ◌∷◌, get_or, if◌then◌else◌, ◌==◌, refl, sym, ap, ◌∙◌, subst}
 use Rattle.law_io.specs.Takings.{Taken, Grows}
 use Rattle.law_cli.specs.Commands.{AreWordsOf, most_bytes, word_of}
 use Rattle.law_cli.specs.Laws.{IsAnswer}
 use Rattle.law_cli.specs.Printed.{IsPrinted}
 use Rattle.law_cli.specs.Promise.{IsAnswered, Means}
-use Rattle.law_cli.specs.Reading.{IsRead, IsShort, StandsFor, WasRead}
+use Rattle.law_cli.specs.Reading.{WasRead}
 use Rattle.law_cli.specs.declared.command.Command.{Command}
 use Rattle.law_cli.specs.declared.command.Command.TheVariants as command
-use Rattle.law_cli.specs.declared.pieces.Pieces.{Pieces}
-use Rattle.law_cli.specs.declared.pieces.Pieces.TheVariants as pieces
 use Rattle.law_cli.specs.declared.status.Which.TheVariants as which
 use Rattle.law_cli.specs.declared.status.Status.{Status}
 use Rattle.law_cli.specs.declared.status.Status.TheVariants as status
@@ -29,16 +27,6 @@ found_in command.Check = refl
 
 pub one_command : (words : List (List ℕ)) (asked other : Command) → AreWordsOf words asked → AreWordsOf words other → asked ≡ other
 one_command words asked other h k = sym (found_in asked) ∙ ap command_in (same_head (word_of asked) (word_of other) (sym h ∙ k)) ∙ found_in other
-
--- the text of a signature that was read is short
-short_of : (asked : Command) (kept : Pieces) (bytes : List ℕ) → StandsFor asked kept bytes → length bytes ≤ most_bytes asked → IsShort kept
-short_of command.Plain (pieces.Signature text) bytes stands short = subst (λ t. length t ≤ most_bytes command.Plain) (sym stands) short
-short_of command.Plain (pieces.Certificate heard) bytes stands short = absurd stands
-short_of command.Check (pieces.Signature text) bytes stands short = absurd stands
-short_of command.Check (pieces.Certificate heard) bytes stands short = tt
-
-pub is_short : (asked : Command) (before now : Option (List ℕ)) (kept : Pieces) → IsRead asked before now kept → IsShort kept
-is_short asked before now kept read = short_of asked kept read.bytes read.stands read.read.short
 
 -- no bytes are a reason for these
 no_usage : (asked : Command) (bytes text : List ℕ) → IsAnswer asked bytes status.Usage text → ⊥

@@ -6,7 +6,7 @@ use Rattle.law_cert.specs.declared.cert.Cert.{Cert}
 use Rattle.law_cert.specs.declared.error.CertErr.{CertErr}
 use Rattle.law_cert.specs.declared.error.CertErr.TheVariants as unread
 use Rattle.law_cert.specs.Spelling.{cert_lines}
-use Rattle.law_cert.specs.Readers.{Heard, IsFed, IsOpen, IsReadAs, IsStopped, IsWhole, NotWhole, RefusedBy, Stops, StopsNow, heard_text}
+use Rattle.law_cert.specs.Readers.{Heard, IsOpen, IsReadAs, IsStopped, IsWhole, NotWhole, RefusedBy, Stops, StopsNow, heard_text}
 use Rattle.law_cert.specs.Readings.{FaultAt, FaultyLine, Unfinished}
 use Rattle.law_cli.specs.Reading.{HasHeard, IsRefusing}
 
@@ -33,10 +33,6 @@ fault_more text more number f = record {
 
 same_number : (heard : Heard) (number other : ℕ) → Stops heard (unread.Form number) → Stops heard (unread.Form other) → number ≡ other
 same_number heard number other s t = let e : Some number ≡ Some other = sym s.0 ∙ t.0 in cc
-
-pub fed : (old new : Heard) (piece text : List ℕ) → IsFed old new piece → HasHeard old text → HasHeard new (text ++ piece)
-fed old new piece text f (inl h) = inl (f.after, f.text ∙ ap (λ t. t ++ piece) h.1)
-fed old new piece text f (inr r) = absurd (not_open old r.number r.stops f.before)
 
 pub stopped : (old new : Heard) (piece text : List ℕ) (number : ℕ) → IsStopped old new piece (unread.Form number) → HasHeard old text → HasHeard new (text ++ piece)
 stopped old new piece text number s h = inr (record { number = number; stops = s.kept; fault = by s.cause h })

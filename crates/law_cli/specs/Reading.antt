@@ -58,8 +58,3 @@ pub record IsRead (asked : Command) (before now : Option (List ℕ)) (kept : Pie
   pub bytes : List ℕ
   pub read : WasRead before now bytes (most_bytes asked)
   pub stands : StandsFor asked kept bytes
-
--- the text of a signature is within its limit
-abbrev pub IsShort : Pieces → Type 0
-IsShort (pieces.Signature kept) = length kept ≤ most_bytes command.Plain
-IsShort (pieces.Certificate heard) = Unit {0}

@@ -1,5 +1,5 @@
 ghost use Rattle.std.specs.Prelude.{ℕ, List, IfOk};
-ghost use Rattle.law_cli.specs.Reading.{IsShort, StandsFor};
+ghost use Rattle.law_cli.specs.Reading.{StandsFor};
 ghost use Rattle.law_cli.specs.Laws.{IsAnswer};
 ghost use Rattle.law_cli.specs.declared.command.Command.{Command};
 
@@ -11,7 +11,6 @@ use std::alloc::Global;
 
 /// The answer to an input that was read to its end.
 pub fn answer(alloc: Global, pieces: Pieces) -> Result<Answer, NoMemory>
-    requires { IsShort pieces }
     ensures { IfOk result (λ found. (asked : Command) (bytes : List ℕ) → StandsFor asked pieces bytes → IsAnswer asked bytes found.status found.text) }
 {
     match pieces {

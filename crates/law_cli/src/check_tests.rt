@@ -111,10 +111,22 @@ fn refused_certificates(rt: HostRuntime) -> Result<(), Fail> {
     let cert = cert_of(alloc, AND, POOL, AND_BODY)?;
     for (from, to, line) in [
         ("width 2", "width 0", "no V1 0\n"),
-        ("end\npool\nvalues B F T\n", "end\npool\nvalues B T F\n", "no V2 0\n"),
-        ("law 1 saturated and B.0 B.0 = B.0", "law 1 saturated and B.0 B.1 = B.0", "no V3 5\n"),
+        (
+            "end\npool\nvalues B F T\n",
+            "end\npool\nvalues B T F\n",
+            "no V2 0\n",
+        ),
+        (
+            "law 1 saturated and B.0 B.0 = B.0",
+            "law 1 saturated and B.0 B.1 = B.0",
+            "no V3 5\n",
+        ),
         ("spread and B.0 B.0\n", "", "no V5 5\n"),
-        ("moved and B.0 B.0 = B.0", "moved and B.0 B.0 = and B.0 B.1", "no V7 6\n"),
+        (
+            "moved and B.0 B.0 = B.0",
+            "moved and B.0 B.0 = and B.0 B.1",
+            "no V7 6\n",
+        ),
         ("live and B.0 B.1\n", "", "no V7 8\n"),
         ("class 1 2", "class 1", "no V8 11\n"),
         ("leaf 3", "leaf 2", "no V9 11\n"),
@@ -144,7 +156,12 @@ fn refused_certificates(rt: HostRuntime) -> Result<(), Fail> {
             "over 7 1 plus Nat.0 Nat.1\n"
         )?
     );
-    let lemma = cert_of(alloc, ROTATIONS, "pool\nvalues M P0 P1 P2\n", ROTATIONS_BODY)?;
+    let lemma = cert_of(
+        alloc,
+        ROTATIONS,
+        "pool\nvalues M P0 P1 P2\n",
+        ROTATIONS_BODY,
+    )?;
     assert!(rt;
         checks_changed(
             alloc,
@@ -167,7 +184,11 @@ fn texts_that_spell_no_certificate(rt: HostRuntime) -> Result<(), Fail> {
     for (from, to, line) in [
         ("leaf 2\nend\n", "leaf 2\n", "line 35: Certificate\n"),
         ("leaf 2\nend\n", "leaf 2\nend", "line 35: Certificate\n"),
-        ("leaf 2\nend\n", "leaf 2\nend\nend\n", "line 36: Certificate\n"),
+        (
+            "leaf 2\nend\n",
+            "leaf 2\nend\nend\n",
+            "line 36: Certificate\n",
+        ),
         ("vars 1", "vars 01", "line 3: Certificate\n"),
         ("saturated", "plain", "line 26: Certificate\n"),
         ("split 0 2", "split 0 1", "line 30: Certificate\n"),
@@ -181,12 +202,7 @@ fn texts_that_spell_no_certificate(rt: HostRuntime) -> Result<(), Fail> {
 
 /// Whether `check` has this status over a source that gives sixteen bytes a call and fails at one, and prints nothing
 /// where it failed.
-fn reads(
-    alloc: Global,
-    input: &str,
-    failing: u64,
-    status: u8,
-) -> Result<bool, AllocError> {
+fn reads(alloc: Global, input: &str, failing: u64, status: u8) -> Result<bool, AllocError> {
     let words = words_of(alloc, &["check"])?;
     let bytes = Vec::from_slice(alloc, input.as_bytes())?;
     let mut source = MemSource::new(bytes, 16, vec![in alloc; failing]?);

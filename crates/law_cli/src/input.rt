@@ -21,11 +21,7 @@ pub enum Refusal {
 }
 
 /// The whole input, piece by piece. Of a longer input one byte past the limit is asked for, and no more.
-pub fn read_all<S: Source>(
-    alloc: Global,
-    asked: Command,
-    input: &mut S,
-) -> Result<Pieces, Refusal>
+pub fn read_all<S: Source>(alloc: Global, asked: Command, input: &mut S) -> Result<Pieces, Refusal>
     ensures read { IfOk result (IsRead asked (S.left input.old) (S.left input.new)) }
     ensures long { result ≡ Err refusal.TooLong → GaveTooMany (S.left input.old) (S.left input.new) (most_bytes asked) }
 

@@ -1,6 +1,6 @@
 use Rattle.std.proofs.Common.{◌≡◌, ◌∷◌, [], length, map, string_bytes, arith, sym, ap, ◌∙◌}
 use Rattle.law_cli.proofs.TopFacts.{one_item, same_head}
-use Rattle.law_cli.proofs.top.is_plain.Goals as goal
+use Rattle.law_cli.proofs.command.Command.of.Goals as goal
 
 pub returns-in-len1 : goal.returns-in-len1
 returns-in-len1 c =
