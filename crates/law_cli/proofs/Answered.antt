@@ -1,11 +1,11 @@
 -- What was printed whole is the answer to what was read.
-use Rattle.std.proofs.Common.{◌≡◌, ◌≢◌, ◌⊎◌, inl, inr, Option, ℕ, List, [], ◌∷◌, get_or, if◌then◌else◌, ◌==◌, refl, sym, ap, ◌∙◌, subst}
+use Rattle.std.proofs.Common.{◌≡◌, ◌≢◌, ◌⊎◌, inl, inr, Option, ℕ, ◌+◌, List, [], ◌∷◌, get_or, if◌then◌else◌, ◌==◌, refl, sym, ap, ◌∙◌, subst}
 use Rattle.law_io.specs.Takings.{Taken, Grows}
-use Rattle.law_cli.specs.Commands.{AreWordsOf, most_bytes, word_of}
+use Rattle.law_cli.specs.Commands.{AreOtherWords, AreWordsOf, most_bytes, word_of}
 use Rattle.law_cli.specs.Laws.{IsAnswer}
 use Rattle.law_cli.specs.Printed.{IsPrinted}
-use Rattle.law_cli.specs.Promise.{IsAnswered, Means}
-use Rattle.law_cli.specs.Reading.{WasRead}
+use Rattle.law_cli.specs.Promise.{AsksAtMost, IsAnswered, Means}
+use Rattle.law_cli.specs.Reading.{GaveAtMost, WasRead}
 use Rattle.law_cli.specs.declared.command.Command.{Command}
 use Rattle.law_cli.specs.declared.command.Command.TheVariants as command
 use Rattle.law_cli.specs.declared.status.Which.TheVariants as which
@@ -27,6 +27,12 @@ found_in command.Check = refl
 
 pub one_command : (words : List (List ℕ)) (asked other : Command) → AreWordsOf words asked → AreWordsOf words other → asked ≡ other
 one_command words asked other h k = sym (found_in asked) ∙ ap command_in (same_head (word_of asked) (word_of other) (sym h ∙ k)) ∙ found_in other
+
+pub asks : (words : List (List ℕ)) (before now : Option (List ℕ)) (asked : Command) → AreWordsOf words asked → GaveAtMost before now (most_bytes asked + 1) → AsksAtMost words before now
+asks words before now asked words_are gave = λ other is. subst (λ c. GaveAtMost before now (most_bytes c + 1)) (one_command words asked other words_are is) gave
+
+pub asks_nothing : (words : List (List ℕ)) (before now : Option (List ℕ)) → AreOtherWords words → AsksAtMost words before now
+asks_nothing words before now other = λ asked is. absurd (other asked is)
 
 -- no bytes are a reason for these
 no_usage : (asked : Command) (bytes text : List ℕ) → IsAnswer asked bytes status.Usage text → ⊥

@@ -1,9 +1,9 @@
 -- What the top call promises.
-use Rattle.std.specs.Prelude.{◌≡◌, ℕ, ◌≤◌, ◌⊎◌, List, length, Option, Some}
+use Rattle.std.specs.Prelude.{◌≡◌, ℕ, ◌+◌, ◌≤◌, ◌⊎◌, List, length, Option, Some}
 use Rattle.law_io.specs.Takings.{Taken, Grows, GrewByPrefix}
 use Rattle.law_io.specs.Counts.{Rose}
 use Rattle.law_cli.specs.Commands.{AreWordsOf, AreOtherWords, AreWords, most_bytes}
-use Rattle.law_cli.specs.Reading.{WasRead, GaveTooMany}
+use Rattle.law_cli.specs.Reading.{WasRead, GaveTooMany, GaveAtMost}
 use Rattle.law_cli.specs.Printed.{status_text}
 use Rattle.law_cli.specs.Laws.{IsAnswer, IsGood}
 use Rattle.law_cli.specs.declared.command.Command.{Command}
@@ -59,6 +59,10 @@ pub record CanSucceed (words : List (List ℕ)) (left : Option (List ℕ)) (read
   pub good : IsGood asked bytes
   pub reads : Rose reads_before reads_now → ⊥
   pub writes : Rose writes_before writes_now → ⊥
+
+-- of the input of a command at most one byte past its limit was given
+abbrev pub AsksAtMost : List (List ℕ) → Option (List ℕ) → Option (List ℕ) → Type 0
+AsksAtMost words left_before left_now = (asked : Command) → AreWordsOf words asked → GaveAtMost left_before left_now (most_bytes asked + 1)
 
 -- what a status means, where one is printed or nothing had to be
 abbrev pub Means : List (List ℕ) → Option (List ℕ) → Option (List ℕ) → Taken → Taken → Status → Type 0

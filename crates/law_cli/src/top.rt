@@ -1,11 +1,9 @@
-ghost use Rattle.std.specs.Prelude.{◌≡◌, ◌≢◌, ◌+◌, ◌<◌, ◌≤◌, ◌⊎◌, map, string_bytes};
+ghost use Rattle.std.specs.Prelude.{◌≡◌, ◌≢◌, ◌<◌, ◌≤◌, ◌⊎◌, map, string_bytes};
 ghost use Rattle.law_io.specs.Counts.{Rose};
 ghost use Rattle.law_io.specs.Takings.{Grows, GrewByPrefix};
 ghost use Rattle.law_cli.specs.Printed.{IsPrinted};
-ghost use Rattle.law_cli.specs.Reading.{GaveAtMost};
-ghost use Rattle.law_cli.specs.Commands.{AreOtherWords, AreWordsOf, most_bytes};
-ghost use Rattle.law_cli.specs.Promise.{CanSucceed, Means, IsCutOff};
-ghost use Rattle.law_cli.specs.declared.command.Command.{Command};
+ghost use Rattle.law_cli.specs.Commands.{AreOtherWords};
+ghost use Rattle.law_cli.specs.Promise.{AsksAtMost, CanSucceed, Means, IsCutOff};
 ghost use Rattle.law_cli.specs.declared.status.Status.TheVariants as status;
 
 use crate::answer::answer;
@@ -17,6 +15,7 @@ use law_io::{Sink, Source, push_all};
 use std::alloc::Global;
 
 /// The top call: it does all that the program does. All memory is taken before the first byte is pushed.
+#[tactic(auto, using(crate::proofs::Answered::asks, crate::proofs::Answered::asks_nothing, crate::proofs::Answered::is_printed))]
 pub fn run<S: Source, K: Sink>(
     alloc: Global,
     words: &[String],
@@ -34,7 +33,7 @@ pub fn run<S: Source, K: Sink>(
         → (result ≡ status.Done) ⊎ (result ≡ status.NoMemory) }
 
     // Nothing past one byte more than the limit is asked for.
-    ensures asked { (asked : Command) → AreWordsOf (map string_bytes words.now) asked → GaveAtMost (S.left input.old) (S.left input.new) (most_bytes asked + 1) }
+    ensures asked { AsksAtMost (map string_bytes words.now) (S.left input.old) (S.left input.new) }
 
     // While a count is below its last value, a failed call of the source or the sink is never passed over.
     ensures read_fault { result ≡ status.ReadFault → Rose (S.faults input.old) (S.faults input.new) }
