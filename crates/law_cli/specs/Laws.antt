@@ -1,5 +1,5 @@
 -- Laws of answers: each text has one for each command, and a good text has what was asked for.
-use Rattle.std.specs.Prelude.{◌≡◌, ℕ, List}
+use Rattle.std.specs.Prelude.{◌≡◌, ℕ, List, Option}
 use Rattle.law_sig.specs.declared.parts.SigParts.{SigParts}
 use Rattle.law_read.specs.declared.raw.RawLine.{RawLine}
 use Rattle.law_cert.specs.declared.cert.Cert.{Cert}
@@ -8,6 +8,8 @@ use Rattle.law_valid.specs.Named.{IsValidCert}
 use Rattle.law_explore.specs.LawList.{IsWithin}
 use Rattle.law_cli.specs.Answers.{IsStated, IsAnswerTo, most_terms}
 use Rattle.law_cli.specs.Checks.{IsCheckAnswer}
+use Rattle.law_cli.specs.Commands.{most_bytes}
+use Rattle.law_cli.specs.Reading.{WasRead}
 use Rattle.law_cli.specs.declared.command.Command.{Command}
 use Rattle.law_cli.specs.declared.command.Command.TheVariants as command
 use Rattle.law_cli.specs.declared.status.Status.{Status}
@@ -17,6 +19,12 @@ use Rattle.law_cli.specs.declared.status.Status.TheVariants as status
 abbrev pub IsAnswer : Command → List ℕ → Status → List ℕ → Type 0
 IsAnswer command.Plain = IsAnswerTo
 IsAnswer command.Check = IsCheckAnswer
+
+-- the input was read to its end, and this is the answer to its bytes
+pub record IsAnswerFrom (asked : Command) (left_before left_now : Option (List ℕ)) (s : Status) (text : List ℕ) : Type 0 where
+  pub bytes : List ℕ
+  pub read : WasRead left_before left_now bytes (most_bytes asked)
+  pub answer : IsAnswer asked bytes s text
 
 -- two answers to the same bytes are the same: so each status comes exactly where its cause holds
 abbrev pub OneAnswer : Type 0

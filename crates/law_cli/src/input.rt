@@ -1,13 +1,12 @@
-ghost use Rattle.std.specs.Prelude.{◌≡◌, ◌≢◌, ◌+◌, ◌≤◌, IfOk};
+ghost use Rattle.std.specs.Prelude.{◌≡◌, ◌≢◌, ◌+◌, ◌≤◌, [], OnOk};
 ghost use Rattle.law_io.specs.Counts.{Rose};
 ghost use Rattle.law_cli.specs.Commands.{most_bytes};
-ghost use Rattle.law_cli.specs.Reading.{IsRead, GaveTooMany, GaveAtMost};
+ghost use Rattle.law_cli.specs.Reading.{IsRead, GaveTooMany, GaveAtMost, StandsFor};
 ghost use Rattle.law_cli.specs.declared.input.Refusal.TheVariants as refusal;
 
 use crate::command::Command;
 use crate::pieces::Pieces;
 use law_io::Source;
-use std::alloc::Global;
 
 /// Why the input could not be read whole.
 #[derive(Clone, Copy, Debug)]
@@ -20,9 +19,14 @@ pub enum Refusal {
     NoMemory,
 }
 
-/// The whole input, piece by piece. Of a longer input one byte past the limit is asked for, and no more.
-pub fn read_all<S: Source>(alloc: Global, asked: Command, input: &mut S) -> Result<Pieces, Refusal>
-    ensures read { IfOk result (IsRead asked (S.left input.old) (S.left input.new)) }
+/// Reads the whole input, piece by piece. Of a longer input one byte past the limit is asked for, and no more.
+pub fn read_all<S: Source>(
+    asked: Command,
+    input: &mut S,
+    pieces: &mut Pieces,
+) -> Result<(), Refusal>
+    requires { StandsFor asked pieces.old [] }
+    ensures read { OnOk result (IsRead asked (S.left input.old) (S.left input.new) pieces.new) }
     ensures long { result ≡ Err refusal.TooLong → GaveTooMany (S.left input.old) (S.left input.new) (most_bytes asked) }
 
     // Whatever the answer, the source is asked for at most one byte past the limit; a fault stands before it.
@@ -35,7 +39,6 @@ pub fn read_all<S: Source>(alloc: Global, asked: Command, input: &mut S) -> Resu
     ensures later { S.faults input.old ≤ S.faults input.new }
 {
     let most = asked.most_bytes();
-    let mut pieces = Pieces::new(alloc, asked);
     let mut count = 0u64;
     let mut buffer = [0u8; 4096];
     loop {
@@ -45,7 +48,7 @@ pub fn read_all<S: Source>(alloc: Global, asked: Command, input: &mut S) -> Resu
             Err(_) => return Err(Refusal::Fault),
         };
         if got == 0 {
-            return Ok(pieces);
+            return Ok(());
         }
         count += got as u64;
         if count > most {

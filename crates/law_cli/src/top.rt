@@ -6,9 +6,9 @@ ghost use Rattle.law_cli.specs.Commands.{AreOtherWords};
 ghost use Rattle.law_cli.specs.Promise.{AsksAtMost, CanSucceed, Means, IsCutOff};
 ghost use Rattle.law_cli.specs.declared.status.Status.TheVariants as status;
 
-use crate::answer::answer;
+use crate::answer::answer_from;
 use crate::command::Command;
-use crate::input::{Refusal, read_all};
+use crate::input::Refusal;
 use crate::plain::Answer;
 use crate::status::{Status, Which, too_long_line, usage_line};
 use law_io::{Sink, Source, push_all};
@@ -51,11 +51,8 @@ pub fn run<S: Source, K: Sink>(
     let Some(asked) = Command::of(words) else {
         return finish(out, usage_line(), Status::Usage);
     };
-    match read_all(alloc, asked, input) {
-        Ok(pieces) => match answer(alloc, pieces) {
-            Ok(Answer { status, text }) => finish(out, text.as_slice(), status),
-            Err(_) => Status::NoMemory,
-        },
+    match answer_from(alloc, asked, input) {
+        Ok(Answer { status, text }) => finish(out, text.as_slice(), status),
         Err(Refusal::TooLong) => finish(
             out,
             too_long_line(),
