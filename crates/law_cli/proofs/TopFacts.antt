@@ -1,5 +1,5 @@
 -- Facts for the top call: one word, and what the input was.
-use Rattle.std.proofs.Common.{◌≡◌, ℕ, suc, ◌+◌, ◌≤◌, List, [], ◌∷◌, ◌++◌, length, take, Option, slice_index_or, arith, sym, ap, ◌∙◌, length-append}
+use Rattle.std.proofs.Common.{◌≡◌, ℕ, suc, ◌+◌, ◌≤◌, List, [], ◌∷◌, ◌++◌, length, take, Option, slice_index_or, arith, sym, ap, ◌∙◌, length-append, Result, Ok, Err, OnOk, is_err, false}
 use Rattle.law_cli.specs.Commands.{most_bytes}
 use Rattle.law_cli.specs.Reading.{GaveAtMost, GaveTooMany, IsReading, StandsFor}
 use Rattle.law_cli.specs.declared.command.Command.{Command}
@@ -47,3 +47,8 @@ one_more asked before middle now old new count more faults_before faults faults_
   stands = takes asked reading.bytes reading.stands;
   steady = kept ∙ reading.steady;
 }
+
+-- what holds behind a call that went well
+pub went : {A E : Type 0} (r : Result A E) (P : Type 0) → OnOk r P → is_err r ≡ false → P
+went (Ok x) P h e = h
+went (Err x) P h e = cc
