@@ -1,13 +1,20 @@
 -- What was printed whole is the answer to what was read.
-use Rattle.std.proofs.Common.{◌≡◌, ◌≢◌, ◌⊎◌, inl, inr, Option, ℕ, ◌+◌, List, [], ◌∷◌, get_or, if◌then◌else◌, ◌==◌, refl, sym, ap, ◌∙◌, subst}
+use Rattle.std.proofs.Common.{◌≡◌, ◌≢◌, ◌⊎◌, inl, inr, Option, Some, None, MatchOption, Result, Ok, Err, IfOk, ℕ, ◌+◌, List, [], ◌∷◌, get_or, if◌then◌else◌, ◌==◌, refl, sym, ap, ◌∙◌, subst}
+use Rattle.law_sig.specs.declared.seq.NoMemory.{NoMemory}
 use Rattle.law_io.specs.Takings.{Taken, Grows}
-use Rattle.law_cli.specs.Commands.{AreOtherWords, AreWordsOf, most_bytes, word_of}
-use Rattle.law_cli.specs.Laws.{IsAnswer}
+use Rattle.law_cert.specs.Readers.{Heard}
+use Rattle.law_cli.specs.Commands.{AreOtherWords, AreWordsOf, IsOtherWord, most_bytes, word_of}
+use Rattle.law_cli.specs.Answers.{IsAnswerTo}
+use Rattle.law_cli.specs.Checks.{IsCheckAnswer}
+use Rattle.law_cli.specs.Laws.{IsAnswer, IsAnswerFrom}
 use Rattle.law_cli.specs.Printed.{IsPrinted}
 use Rattle.law_cli.specs.Promise.{AsksAtMost, IsAnswered, Means}
-use Rattle.law_cli.specs.Reading.{GaveAtMost, WasRead}
+use Rattle.law_cli.specs.Reading.{GaveAtMost, HasHeard, IsRead, StandsFor, WasRead}
 use Rattle.law_cli.specs.declared.command.Command.{Command}
 use Rattle.law_cli.specs.declared.command.Command.TheVariants as command
+use Rattle.law_cli.specs.declared.pieces.Pieces.{Pieces}
+use Rattle.law_cli.specs.declared.pieces.Pieces.TheVariants as pieces
+use Rattle.law_cli.specs.declared.plain.Answer.{Answer}
 use Rattle.law_cli.specs.declared.status.Which.TheVariants as which
 use Rattle.law_cli.specs.declared.status.Status.{Status}
 use Rattle.law_cli.specs.declared.status.Status.TheVariants as status
@@ -22,6 +29,7 @@ command_in : List ℕ → Command
 command_in word = command_at (get_or word 0 0)
 
 found_in : (asked : Command) → command_in (word_of asked) ≡ asked
+unfolding command_in command_at
 found_in command.Plain = refl
 found_in command.Check = refl
 
@@ -33,6 +41,34 @@ asks words before now asked words_are gave = λ other is. subst (λ c. GaveAtMos
 
 pub asks_nothing : (words : List (List ℕ)) (before now : Option (List ℕ)) → AreOtherWords words → AsksAtMost words before now
 asks_nothing words before now other = λ asked is. absurd (other asked is)
+
+pub named_words : (r : Option Command) (words : List (List ℕ)) (word : List ℕ) → words ≡ word ∷ [] → MatchOption r (IsOtherWord word) (λ asked. word ≡ word_of asked)
+    → MatchOption r (AreOtherWords words) (AreWordsOf words)
+named_words None words word e h = λ asked is. h asked (same_head word (word_of asked) (sym e ∙ is))
+named_words (Some asked) words word e h = e ∙ ap (λ w. w ∷ []) h
+
+-- what was kept stands for one text
+pub of_signature : (r : Result Answer NoMemory) (slice kept : List ℕ) → slice ≡ kept → IfOk r (λ (a : Answer). IsAnswerTo slice a.status a.text)
+    → IfOk r (λ (a : Answer). (asked : Command) (bytes : List ℕ) → StandsFor asked (pieces.Signature kept) bytes → IsAnswer asked bytes a.status a.text)
+of_signature (Err e) slice kept same h = tt
+of_signature (Ok a) slice kept same h = by
+  where
+    by : (asked : Command) (bytes : List ℕ) → StandsFor asked (pieces.Signature kept) bytes → IsAnswer asked bytes a.status a.text
+    by command.Plain bytes stands = subst (λ b. IsAnswerTo b a.status a.text) (same ∙ stands) h
+    by command.Check bytes stands = absurd stands
+
+pub of_reader : (r : Result Answer NoMemory) (heard : Heard) → IfOk r (λ (a : Answer). (bytes : List ℕ) → HasHeard heard bytes → IsCheckAnswer bytes a.status a.text)
+    → IfOk r (λ (a : Answer). (asked : Command) (bytes : List ℕ) → StandsFor asked (pieces.Certificate heard) bytes → IsAnswer asked bytes a.status a.text)
+of_reader (Err e) heard h = tt
+of_reader (Ok a) heard h = by
+  where
+    by : (asked : Command) (bytes : List ℕ) → StandsFor asked (pieces.Certificate heard) bytes → IsAnswer asked bytes a.status a.text
+    by command.Plain bytes stands = absurd stands
+    by command.Check bytes stands = h bytes stands
+
+pub from_read : (asked : Command) (before now : Option (List ℕ)) (kept : Pieces) (a : Answer) → IsRead asked before now kept
+    → ((other : Command) (bytes : List ℕ) → StandsFor other kept bytes → IsAnswer other bytes a.status a.text) → IsAnswerFrom asked before now a.status a.text
+from_read asked before now kept a read h = record { bytes = read.bytes; read = read.read; answer = h asked read.bytes read.stands }
 
 -- no bytes are a reason for these
 no_usage : (asked : Command) (bytes text : List ℕ) → IsAnswer asked bytes status.Usage text → ⊥

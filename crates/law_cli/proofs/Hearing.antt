@@ -1,5 +1,5 @@
 -- What a reader of certificates has, piece by piece, and in the end.
-use Rattle.std.proofs.Common.{◌≡◌, ℕ, List, [], ◌∷◌, ◌++◌, Some, ◌⊎◌, inl, inr, ap, sym, subst, ◌∙◌}
+use Rattle.std.proofs.Common.{◌≡◌, ℕ, List, [], ◌∷◌, ◌++◌, Some, Result, Ok, Err, IfOk, ◌⊎◌, inl, inr, ap, sym, subst, ◌∙◌}
 use Rattle.std.proofs.lemmas.List.{append_assoc, append-nil}
 use Rattle.law_read.specs.Spelling.{text_of}
 use Rattle.law_cert.specs.declared.cert.Cert.{Cert}
@@ -8,7 +8,10 @@ use Rattle.law_cert.specs.declared.error.CertErr.TheVariants as unread
 use Rattle.law_cert.specs.Spelling.{cert_lines}
 use Rattle.law_cert.specs.Readers.{Heard, IsOpen, IsReadAs, IsStopped, IsWhole, NotWhole, RefusedBy, Stops, StopsNow, heard_text}
 use Rattle.law_cert.specs.Readings.{FaultAt, FaultyLine, Unfinished}
-use Rattle.law_cli.specs.Reading.{HasHeard, IsRefusing}
+use Rattle.law_sig.specs.declared.seq.NoMemory.{NoMemory}
+use Rattle.law_cli.specs.Checks.{IsCheckAnswer}
+use Rattle.law_cli.specs.Reading.{HasHeard}
+use Rattle.law_cli.specs.declared.plain.Answer.{Answer}
 
 -- a reader that has stopped is not open
 not_open : (heard : Heard) (number : ℕ) → Stops heard (unread.Form number) → IsOpen heard → ⊥
@@ -54,3 +57,8 @@ not_whole heard number text (inl s) (inl h) = absurd (not_open heard number s h.
 not_whole heard number text (inl s) (inr r) = inl (subst (λ n. FaultAt text n FaultyLine) (same_number heard r.number number r.stops s) r.fault)
 not_whole heard number text (inr f) (inl h) = inr (subst (λ t. FaultAt t number Unfinished) h.1 f.1)
 not_whole heard number text (inr f) (inr r) = absurd (not_open heard r.number r.stops f.0)
+
+pub whole_answer : (r : Result Answer NoMemory) (heard : Heard) (cert : Cert) → IsWhole heard cert → IfOk r (λ (a : Answer). (bytes : List ℕ) → IsReadAs bytes cert → IsCheckAnswer bytes a.status a.text)
+    → IfOk r (λ (a : Answer). (bytes : List ℕ) → HasHeard heard bytes → IsCheckAnswer bytes a.status a.text)
+whole_answer (Err e) heard cert w h = tt
+whole_answer (Ok a) heard cert w h = λ bytes has. h bytes (whole heard cert bytes w has)

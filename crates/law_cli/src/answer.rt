@@ -16,6 +16,7 @@ use law_sig::NoMemory;
 use std::alloc::Global;
 
 /// The answer to the whole input, or why it could not be read.
+#[tactic(auto, using(crate::proofs::Answered::from_read))]
 pub fn answer_from<S: Source>(
     alloc: Global,
     asked: Command,
@@ -39,6 +40,7 @@ pub fn answer_from<S: Source>(
 }
 
 /// The answer to an input that was read to its end.
+#[tactic(auto, using(crate::proofs::Answered::of_signature, crate::proofs::Answered::of_reader))]
 fn answer(alloc: Global, pieces: Pieces) -> Result<Answer, NoMemory>
     ensures { IfOk result (λ found. (asked : Command) (bytes : List ℕ) → StandsFor asked pieces bytes → IsAnswer asked bytes found.status found.text) }
 {
