@@ -1,4 +1,8 @@
 pub mod TopFacts
+pub mod Hearing
 pub mod AnswerFacts
+pub mod Answered
 pub mod OneAnswer
+pub mod CertFaults
+pub mod CheckAnswers
 pub mod Completeness

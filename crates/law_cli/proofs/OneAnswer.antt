@@ -68,9 +68,11 @@ Answers bytes s text = IsListedText bytes text s ⊎ ((text ≡ status_text s) �
 
 kinds : (bytes text : List ℕ) (s : Status) → IsAnswerTo bytes s text → Answers bytes s text
 kinds bytes text status.Done h = inl (record { list = h; is = refl })
+kinds bytes text (status.Rejected rule entry) h = absurd h.0
 kinds bytes text status.Usage h = absurd h.0
 kinds bytes text (status.Form line (form.Read kind)) h = inr (h.1, inl (record { number = line; kind = kind; refused = h.0; is = refl }))
 kinds bytes text (status.Form line (form.Sort kind)) h = inr (h.1, inr (inl (record { number = line; kind = kind; fault = h.0; is = refl })))
+kinds bytes text (status.Form line form.Certificate) h = absurd h.0
 kinds bytes text (status.Limit which.Bytes) h = absurd h.0
 kinds bytes text (status.Limit which.Assignments) h =
     inr (h.1, inr (inr (record { lines = h.0.lines; parts = h.0.parts; stated = h.0.stated; why = Assignments; refused = h.0.told; is = refl })))

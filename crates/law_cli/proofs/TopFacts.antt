@@ -1,6 +1,9 @@
 -- Facts for the top call: one word, and what the input was.
-use Rattle.std.proofs.Common.{◌≡◌, ℕ, suc, ◌+◌, ◌≤◌, List, [], ◌∷◌, ◌++◌, length, take, Option, slice_index_or, arith, sym, ap, length-append, Bool, true, false, if◌then◌else◌}
-use Rattle.law_cli.specs.Reading.{GaveAtMost, GaveTooMany}
+use Rattle.std.proofs.Common.{◌≡◌, ℕ, suc, ◌+◌, ◌≤◌, List, [], ◌∷◌, ◌++◌, length, take, Option, slice_index_or, arith, sym, ap, ◌∙◌, length-append, Result, Ok, Err, OnOk, is_err, false}
+use Rattle.law_cli.specs.Commands.{most_bytes}
+use Rattle.law_cli.specs.Reading.{GaveAtMost, GaveTooMany, IsReading, StandsFor}
+use Rattle.law_cli.specs.declared.command.Command.{Command}
+use Rattle.law_cli.specs.declared.pieces.Pieces.{Pieces}
 use Rattle.std.proofs.lemmas.List.{length-take}
 use Rattle.std.specs.Io.KnownBytes.{Consumes}
 use Rattle.law_io.proofs.LeftFacts.{Consumes-trans}
@@ -32,7 +35,20 @@ gave_too_many before middle now xs got count length_xs most had more is fits man
   count = omega (arith, length-append xs (take count got), length-take count got);
 }
 
--- the length behind a call that went well
-pub grown : (ok : Bool) (new old more : ℕ) → ok ≡ true → new ≡ (if ok then old + more else old) → new ≡ old + more
-grown true new old more went is = is
-grown false new old more went is = cc
+-- one piece more
+pub one_more : (asked : Command) (before middle now : Option (List ℕ)) (old new : Pieces) (count more faults_before faults faults_now : ℕ) (piece : List ℕ)
+    → IsReading asked before middle old count faults_before faults → Consumes middle now piece → length piece ≡ more → count + more ≤ most_bytes asked
+    → ((command : Command) (text : List ℕ) → StandsFor command old text → StandsFor command new (text ++ piece)) → faults_now ≡ faults → IsReading asked before now new (count + more) faults_before faults_now
+one_more asked before middle now old new count more faults_before faults faults_now piece reading read is few takes kept = record {
+  bytes = reading.bytes ++ piece;
+  consumed = Consumes-trans before middle now reading.bytes piece reading.consumed read;
+  counted = omega (arith, reading.counted, is, length-append reading.bytes piece);
+  short = few;
+  stands = takes asked reading.bytes reading.stands;
+  steady = kept ∙ reading.steady;
+}
+
+-- what holds behind a call that went well
+pub went : {A E : Type 0} (r : Result A E) (P : Type 0) → OnOk r P → is_err r ≡ false → P
+went (Ok x) P h e = h
+went (Err x) P h e = cc

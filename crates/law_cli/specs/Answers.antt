@@ -70,7 +70,11 @@ Cause bytes (status.Over entry test term) = (entry ≡ 0) × IsRefusedFor bytes 
 Cause bytes (status.BackgroundFails law test) = IsRefusedFor bytes (explore.BackgroundFails law test)
 Cause bytes other = ⊥
 
+-- an answer: what was asked for, or the line of a status that has a cause
+abbrev pub IsOneOf : (List ℕ → Type 0) → (Status → Type 0) → Status → List ℕ → Type 0
+IsOneOf Asked Caused status.Done text = Asked text
+IsOneOf Asked Caused other text = Caused other × (text ≡ status_text other)
+
 -- the answer to these bytes: a status, and the text that is printed with it
 abbrev pub IsAnswerTo : List ℕ → Status → List ℕ → Type 0
-IsAnswerTo bytes status.Done text = IsListText bytes text
-IsAnswerTo bytes other text = Cause bytes other × (text ≡ status_text other)
+IsAnswerTo bytes = IsOneOf (IsListText bytes) (Cause bytes)

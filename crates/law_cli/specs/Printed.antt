@@ -5,6 +5,8 @@ use Rattle.law_read.specs.declared.error.ReadKind.{ReadKind}
 use Rattle.law_read.specs.declared.error.ReadKind.TheVariants as read
 use Rattle.law_types.specs.declared.errors.TypeKind.{TypeKind}
 use Rattle.law_types.specs.declared.errors.TypeKind.TheVariants as fault
+use Rattle.law_valid.specs.declared.rule.Rule.{Rule}
+use Rattle.law_valid.specs.declared.rule.Rule.TheVariants as rule
 use Rattle.law_cli.specs.declared.status.FormKind.{FormKind}
 use Rattle.law_cli.specs.declared.status.FormKind.TheVariants as form
 use Rattle.law_cli.specs.declared.status.Which.{Which}
@@ -38,6 +40,18 @@ sort_kind_name fault.SettingRange = codes "SettingRange"
 abbrev pub kind_name : FormKind → List ℕ
 kind_name (form.Read kind) = read_kind_name kind
 kind_name (form.Sort kind) = sort_kind_name kind
+kind_name form.Certificate = codes "Certificate"
+
+abbrev pub rule_name : Rule → List ℕ
+rule_name rule.V1 = codes "V1"
+rule_name rule.V2 = codes "V2"
+rule_name rule.V3 = codes "V3"
+rule_name rule.V4 = codes "V4"
+rule_name rule.V5 = codes "V5"
+rule_name rule.V6 = codes "V6"
+rule_name rule.V7 = codes "V7"
+rule_name rule.V8 = codes "V8"
+rule_name rule.V9 = codes "V9"
 
 abbrev pub which_name : Which → List ℕ
 which_name which.Bytes = codes "Bytes"
@@ -48,6 +62,7 @@ which_name which.Value = codes "Value"
 -- the one line that says why nothing else is printed; nothing where the status says it all
 abbrev pub status_text : Status → List ℕ
 status_text status.Done = []
+status_text (status.Rejected broken entry) = codes "no " ++ (rule_name broken ++ (32 ∷ (decimal entry ++ 10 ∷ [])))
 status_text status.Usage = codes "usage: lawfind plain | explore | check | laws | demo N" ++ 10 ∷ []
 status_text (status.Form line kind) = codes "line " ++ (decimal line ++ (codes ": " ++ (kind_name kind ++ 10 ∷ [])))
 status_text (status.Limit which) = codes "limit " ++ (which_name which ++ 10 ∷ [])
@@ -68,6 +83,7 @@ IsPrinted other = Unit {0}
 -- the number that the program ends with
 abbrev pub code_of : Status → ℕ
 code_of status.Done = 0
+code_of (status.Rejected broken entry) = 1
 code_of status.Usage = 2
 code_of (status.Form line kind) = 3
 code_of (status.Limit which) = 4

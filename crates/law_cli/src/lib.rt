@@ -1,8 +1,12 @@
 //! The top call: all that the program does.
 #![tactic(auto)]
 
+mod answer;
+mod check;
+mod command;
 mod input;
 mod laws;
+mod pieces;
 mod plain;
 mod status;
 mod top;
@@ -11,5 +15,7 @@ pub use laws::answer_laws;
 pub use status::{FormKind, Status, Which, code, status_line};
 pub use top::run;
 
+#[cfg(test)]
+mod check_tests;
 #[cfg(test)]
 mod tests;

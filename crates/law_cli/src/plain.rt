@@ -95,7 +95,7 @@ fn status_for(why: ExploreErr) -> Result<Status, NoMemory>
 }
 
 /// The answer with the line of this status.
-fn refusal(alloc: Global, status: Status) -> Result<Answer, NoMemory>
+pub fn refusal(alloc: Global, status: Status) -> Result<Answer, NoMemory>
     ensures { IfOk result (λ found. (found.status ≡ status) × (found.text ≡ status_text status)) }
 {
     let text = status_line(alloc, &status)?;

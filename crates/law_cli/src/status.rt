@@ -1,8 +1,9 @@
 ghost use Rattle.std.specs.Prelude.{◌≡◌, ◌++◌, ◌∷◌, [], decimal, IfOk, OnOk};
 ghost use Rattle.law_cli.specs.declared.status.Which.TheVariants as which;
 ghost use Rattle.law_cli.specs.declared.status.Status.TheVariants as status;
-ghost use Rattle.law_cli.specs.Printed.{status_text, code_of, read_kind_name, sort_kind_name, kind_name, which_name};
+ghost use Rattle.law_cli.specs.Printed.{status_text, code_of, read_kind_name, rule_name, sort_kind_name, kind_name, which_name};
 
+use law_check::Rule;
 use law_read::{RawTerm, ReadKind, write_term};
 use law_sig::{NoMemory, Text};
 use law_text::put_number;
@@ -16,12 +17,14 @@ pub enum FormKind {
     Read(ReadKind),
     /// The text has a reading, but the line shows that it states no signature.
     Sort(TypeKind),
+    /// The line has no reading in a certificate.
+    Certificate,
 }
 
 /// A limit that the input passes.
 #[derive(Clone, Copy, Debug)]
 pub enum Which {
-    /// 1,048,576 bytes of a signature text.
+    /// 1,048,576 bytes of a signature text, 2^63 - 1 of a certificate.
     Bytes,
     /// 4,096 ways to give places in a pool to all variables.
     Assignments,
@@ -36,9 +39,15 @@ pub enum Which {
 pub enum Status {
     /// What was asked for was printed whole.
     Done,
-    /// The words are not the one word `plain`; the input was not asked for anything.
+    /// The input spells a certificate that isn't valid: the first rule that fails, and its entry. Entries are counted from
+    /// 1, trees go on counting, and 0 is what stands before the entries.
+    Rejected {
+        rule: Rule,
+        entry: u64,
+    },
+    /// The words name no command; the input was not asked for anything.
     Usage,
-    /// The input states no signature: the first line that shows it, counted from 1, and why.
+    /// The input states no signature, or spells no certificate: the first line that shows it, counted from 1, and why.
     Form {
         line: u64,
         kind: FormKind,
@@ -48,7 +57,7 @@ pub enum Status {
         which: Which,
     },
     /// A term has no value at a test, counted from 0: an application in it needs more steps than the budget. The entry
-    /// is 0, for the signature.
+    /// is that of a certificate which asks for the value, or 0.
     Over {
         entry: u64,
         test: u64,
@@ -121,6 +130,24 @@ fn kind_name(kind: FormKind) -> &'static [u8]
     match kind {
         FormKind::Read(kind) => read_kind_name(kind),
         FormKind::Sort(kind) => sort_kind_name(kind),
+        FormKind::Certificate => b"Certificate",
+    }
+}
+
+/// The name of a rule of certificates.
+fn rule_name(rule: Rule) -> &'static [u8]
+    ensures { result.now ≡ rule_name rule }
+{
+    match rule {
+        Rule::V1 => b"V1",
+        Rule::V2 => b"V2",
+        Rule::V3 => b"V3",
+        Rule::V4 => b"V4",
+        Rule::V5 => b"V5",
+        Rule::V6 => b"V6",
+        Rule::V7 => b"V7",
+        Rule::V8 => b"V8",
+        Rule::V9 => b"V9",
     }
 }
 
@@ -142,6 +169,7 @@ pub fn status_line(alloc: Global, status: &Status) -> Result<Text, NoMemory>
 {
     let mut text = Text::new(alloc);
     match status {
+        Status::Rejected { rule, entry } => put_rejected(&mut text, *rule, *entry)?,
         Status::Usage => text.push_slice(usage_line())?,
         Status::Form { line, kind } => put_form(&mut text, *line, *kind)?,
         Status::Limit { which } => put_limit(&mut text, *which)?,
@@ -153,7 +181,7 @@ pub fn status_line(alloc: Global, status: &Status) -> Result<Text, NoMemory>
 }
 
 /// A word of a line and a number behind it.
-fn put_count(out: &mut Text, word: &[u8], count: u64) -> Result<(), NoMemory>
+pub fn put_count(out: &mut Text, word: &[u8], count: u64) -> Result<(), NoMemory>
     ensures { OnOk result (out.new ≡ out.old ++ (word.now ++ decimal count)) }
 {
     out.push_slice(word)?;
@@ -161,11 +189,19 @@ fn put_count(out: &mut Text, word: &[u8], count: u64) -> Result<(), NoMemory>
 }
 
 /// The same, at the end of a line.
-fn put_last_count(out: &mut Text, word: &[u8], count: u64) -> Result<(), NoMemory>
+pub fn put_last_count(out: &mut Text, word: &[u8], count: u64) -> Result<(), NoMemory>
     ensures { OnOk result (out.new ≡ out.old ++ (word.now ++ (decimal count ++ 10 ∷ []))) }
 {
     put_count(out, word, count)?;
     out.push(b'\n')
+}
+
+fn put_rejected(out: &mut Text, rule: Rule, entry: u64) -> Result<(), NoMemory>
+    ensures { OnOk result (out.new ≡ out.old ++ status_text (status.Rejected rule entry)) }
+{
+    out.push_slice(b"no ")?;
+    out.push_slice(rule_name(rule))?;
+    put_last_count(out, b" ", entry)
 }
 
 fn put_form(out: &mut Text, line: u64, kind: FormKind) -> Result<(), NoMemory>
@@ -215,6 +251,7 @@ pub fn code(status: &Status) -> u8
 {
     match status {
         Status::Done => 0,
+        Status::Rejected { .. } => 1,
         Status::Usage => 2,
         Status::Form { .. } => 3,
         Status::Limit { .. } => 4,

@@ -5,16 +5,16 @@ use law_io::{MemSink, MemSource, SureSink, SureSource};
 use std::alloc::{AllocError, Global};
 use std::test::Fail;
 
-const NOT: &str =
+pub const NOT: &str =
     "signature 1\nvars 1\nsize 3\nwidth 2\nbudget 10\npairs 20\npools given\nsort B\ncon F\ncon T\nfun not B -> B\nmatch 0\ncase F = T\ncase T = F\nexplore not\npool\nvalues B F T\nend\n";
 
-const AND: &str =
+pub const AND: &str =
     "signature 1\nvars 2\nsize 3\nwidth 2\nbudget 10\npairs 20\npools given\nsort B\ncon F\ncon T\nfun and B B -> B\nmatch 0\ncase F = F\ncase T = #1\nexplore and\npool\nvalues B F T\nend\n";
 
-const FIRST_OF_TWO: &str =
+pub const FIRST_OF_TWO: &str =
     "signature 1\nvars 2\nsize 3\nwidth 2\nbudget 10\npairs 20\npools given\nsort B\ncon F\ncon T\nfun k B B -> B\nbody = #0\nexplore k\npool\nvalues B F T\nend\n";
 
-const PLUS: &str =
+pub const PLUS: &str =
     "signature 1\nvars 2\nsize 3\nwidth 2\nbudget 3\npairs 20\npools given\nsort Nat\ncon Z\ncon S Nat\nfun plus Nat Nat -> Nat\nmatch 0\ncase Z = #1\ncase S = S (plus @0 #1)\nexplore plus\npool\nvalues Nat Z (S Z)\nend\n";
 
 const NOT_LAWS: &str = "law 1 plain not (not B.0) = B.0\n";
@@ -27,9 +27,9 @@ const FIRST_OF_TWO_LAWS: &str =
 
 const PLUS_LAWS: &str = "law 1 plain plus Nat.1 Nat.0 = plus Nat.0 Nat.1\n";
 
-const POOL: &str = "pool\nvalues B F T\n";
+pub const POOL: &str = "pool\nvalues B F T\n";
 
-fn words_of(alloc: Global, words: &[&str]) -> Result<Vec<String>, AllocError> {
+pub fn words_of(alloc: Global, words: &[&str]) -> Result<Vec<String>, AllocError> {
     let mut made = Vec::new(alloc);
     for word in words {
         made.push(String::from_str(alloc, word)?)?;
@@ -48,7 +48,7 @@ fn list_of(alloc: Global, signature: &str, pools: &str, laws: &str) -> Result<St
 }
 
 /// The exit code, and what is printed, for these words over this input.
-fn printed(
+pub fn printed(
     alloc: Global,
     words: &[&str],
     input: &str,
@@ -87,7 +87,7 @@ fn law_lists(rt: HostRuntime) -> Result<(), Fail> {
 }
 
 /// A text with other lines in place of some of it.
-fn changed(alloc: Global, text: &str, from: &str, to: &str) -> Result<String, AllocError> {
+pub fn changed(alloc: Global, text: &str, from: &str, to: &str) -> Result<String, AllocError> {
     text.replacen(alloc, from, to, 1)
 }
 
@@ -505,7 +505,7 @@ const SIX_POOLS: &str =
 const TREES: &str =
     "signature 1\nvars 0\nsize 1\nwidth 1\nbudget 10\npairs 20\npools seed 1 height 5 count 1\nsort A0\ncon a0\nsort A1\ncon a1 A0 A0 A0 A0 A0 A0 A0 A0\nsort A2\ncon a2 A1 A1 A1 A1 A1 A1 A1 A1\nsort A3\ncon a3 A2 A2 A2 A2 A2 A2 A2 A2\nsort A4\ncon a4 A3 A3 A3 A3 A3 A3 A3 A3\nexplore\nend\n";
 
-const ROTATIONS: &str =
+pub const ROTATIONS: &str =
     "signature 1\nvars 1\nsize 3\nwidth 3\nbudget 10\npairs 100\npools given\nsort M\ncon P0\ncon P1\ncon P2\nfun f M -> M\nmatch 0\ncase P0 = P1\ncase P1 = P2\ncase P2 = P0\nfun g M -> M\nmatch 0\ncase P0 = P2\ncase P1 = P0\ncase P2 = P1\nexplore f g\npool\nvalues M P0 P1 P2\nend\n";
 
 #[test]
@@ -596,7 +596,7 @@ fn places_of_variables(rt: HostRuntime) -> Result<(), Fail> {
 #[test]
 fn other_words(rt: HostRuntime) -> Result<(), Fail> {
     let alloc = rt.alloc();
-    for text in ["", "explore", "plain plain", "demo 01"] {
+    for text in ["", "explore", "plain plain", "check plain", "demo 01"] {
         let mut words = Vec::new(alloc);
         for word in text.split_whitespace() {
             words.push(String::from_str(alloc, word)?)?;

@@ -1,18 +1,21 @@
-ghost use Rattle.std.specs.Prelude.{◌≡◌, ◌≢◌, ◌<◌, ◌≤◌, ◌⊎◌, ◌↔◌, map, string_bytes, IsTrue};
+ghost use Rattle.std.specs.Prelude.{◌≡◌, ◌≢◌, ◌<◌, ◌≤◌, ◌⊎◌, map, string_bytes};
 ghost use Rattle.law_io.specs.Counts.{Rose};
 ghost use Rattle.law_io.specs.Takings.{Grows, GrewByPrefix};
 ghost use Rattle.law_cli.specs.Printed.{IsPrinted};
-ghost use Rattle.law_cli.specs.Reading.{GaveAtMost};
-ghost use Rattle.law_cli.specs.Promise.{ArePlainWords, CanSucceed, Means, IsCutOff};
+ghost use Rattle.law_cli.specs.Commands.{AreOtherWords};
+ghost use Rattle.law_cli.specs.Promise.{AsksAtMost, CanSucceed, Means, IsCutOff};
 ghost use Rattle.law_cli.specs.declared.status.Status.TheVariants as status;
 
-use crate::input::{Refusal, read_all};
-use crate::plain::{Answer, answer_to};
+use crate::answer::answer_from;
+use crate::command::Command;
+use crate::input::Refusal;
+use crate::plain::Answer;
 use crate::status::{Status, Which, too_long_line, usage_line};
 use law_io::{Sink, Source, push_all};
 use std::alloc::Global;
 
 /// The top call: it does all that the program does. All memory is taken before the first byte is pushed.
+#[tactic(auto, using(crate::proofs::Answered::asks, crate::proofs::Answered::asks_nothing, crate::proofs::Answered::is_printed))]
 pub fn run<S: Source, K: Sink>(
     alloc: Global,
     words: &[String],
@@ -21,16 +24,16 @@ pub fn run<S: Source, K: Sink>(
 ) -> Status
     ensures means { Means (map string_bytes words.now) (S.left input.old) (S.left input.new) (K.taken out.old) (K.taken out.new) result }
 
-    // Where the words are not the one word `plain`, the usage line is the answer, and the source isn't asked.
-    ensures usage_always { (ArePlainWords (map string_bytes words.now) → ⊥) → (result ≡ status.Usage) ⊎ (result ≡ status.WriteFault) }
-    ensures unasked { (ArePlainWords (map string_bytes words.now) → ⊥) → input.new ≡ input.old }
+    // Where the words name no command, the usage line is the answer, and the source isn't asked.
+    ensures usage_always { AreOtherWords (map string_bytes words.now) → (result ≡ status.Usage) ⊎ (result ≡ status.WriteFault) }
+    ensures unasked { AreOtherWords (map string_bytes words.now) → input.new ≡ input.old }
 
-    // A signature within all limits has its law list, or memory runs out.
+    // A signature within all limits has its law list, and a valid certificate its yes, or memory runs out.
     ensures complete { CanSucceed (map string_bytes words.now) (S.left input.old) (S.faults input.old) (S.faults input.new) (K.faults out.old) (K.faults out.new)
         → (result ≡ status.Done) ⊎ (result ≡ status.NoMemory) }
 
     // Nothing past one byte more than the limit is asked for.
-    ensures asked { GaveAtMost (S.left input.old) (S.left input.new) 1048577 }
+    ensures asked { AsksAtMost (map string_bytes words.now) (S.left input.old) (S.left input.new) }
 
     // While a count is below its last value, a failed call of the source or the sink is never passed over.
     ensures read_fault { result ≡ status.ReadFault → Rose (S.faults input.old) (S.faults input.new) }
@@ -45,14 +48,11 @@ pub fn run<S: Source, K: Sink>(
     ensures read_fault_prints_nothing { result ≡ status.ReadFault → out.new ≡ out.old }
     ensures no_memory_prints_nothing { result ≡ status.NoMemory → out.new ≡ out.old }
 {
-    if !is_plain(words) {
+    let Some(asked) = Command::of(words) else {
         return finish(out, usage_line(), Status::Usage);
-    }
-    match read_all(alloc, input) {
-        Ok(bytes) => match answer_to(alloc, bytes.as_slice()) {
-            Ok(Answer { status, text }) => finish(out, text.as_slice(), status),
-            Err(_) => Status::NoMemory,
-        },
+    };
+    match answer_from(alloc, asked, input) {
+        Ok(Answer { status, text }) => finish(out, text.as_slice(), status),
         Err(Refusal::TooLong) => finish(
             out,
             too_long_line(),
@@ -63,23 +63,6 @@ pub fn run<S: Source, K: Sink>(
         Err(Refusal::Fault) => Status::ReadFault,
         Err(Refusal::NoMemory) => Status::NoMemory,
     }
-}
-
-/// Whether the words are the one word `plain`.
-fn is_plain(words: &[String]) -> bool
-    ensures { IsTrue result ↔ ArePlainWords (map string_bytes words.now) }
-{
-    match words {
-        [word] => is_same(word.as_bytes(), b"plain"),
-        _ => false,
-    }
-}
-
-/// Whether two texts are the same.
-fn is_same(left: &[u8], right: &[u8]) -> bool
-    ensures { IsTrue result ↔ (left.now ≡ right.now) }
-{
-    left == right
 }
 
 /// Prints the text, and then this status is the answer; the one place that pushes.
