@@ -10,7 +10,6 @@ pub mod Agreeing
 pub mod Forested
 pub mod Foresting
 pub mod Goes
-pub mod Agreeing
 pub mod Counted
 pub mod Comparing
 pub mod Bounds
