@@ -7,3 +7,4 @@ pub mod Seeking
 pub mod Storing
 pub mod Items
 pub mod Instancing
+pub mod AgendaFacts
