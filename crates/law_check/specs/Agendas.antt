@@ -37,7 +37,7 @@ pub record IsReady (a : Agenda) (p : Progress) : Type 0 where
   pub kept : AreKept p.parts p.spreads p.lives
   pub long : length p.lives ≡ a.lives
   pub done : (c : Tree) → In c p.spreads → In c p.schemas
-  pub next : MatchOption a.schema (AreSpent p) (λ k. (c : Tree) × IsCandidate p.parts a.store.shelf a.store.weight k c × IsFitting a.store k × IsSchemaNext p c)
+  pub next : MatchOption a.schema (AreSpent p) (λ k. (c : Tree) × IsCandidate p.parts a.store.shelf a.store.weight k c × IsSchemaNext p c)
 
 -- instances of the schema at hand are expected; it isn't in the store yet
 pub record IsGoing (a : Agenda) (g : Going) (p : Progress) : Type 0 where

@@ -5,9 +5,9 @@ ghost use Rattle.law_check.specs.Progress.{Progress, at_start, after_spread, aft
 
 use super::candidates::Candidate;
 use super::closing::{close, empty_store, is_candidate};
-use super::instances::{first_instance, next_instance, Instance};
+use super::instances::{Instance, first_instance, next_instance};
 use super::shelves::Spread;
-use super::stores::{first_schema, next_schema, Store};
+use super::stores::{Store, first_schema, next_schema};
 use law_sig::{NoMemory, Sig, Tree};
 use std::alloc::Global;
 
@@ -85,13 +85,28 @@ impl Agenda {
     pub fn kill(self, alloc: Global, sig: &Sig) -> Result<Agenda, NoMemory>
         ensures { IfOk result (λ agenda. (p : Progress) (c : Tree) → IsAt self p → sig.now ≡ p.parts → IsTermSpent p → IsSchemaNext p c → IsAt agenda (after_killed p c)) }
     {
-        let Agenda { store, schema, going, lives } = self;
+        let Agenda {
+            store,
+            schema,
+            going,
+            lives,
+        } = self;
         match schema {
             Some(last) => {
                 let found = next_schema(alloc, sig, store, last)?;
-                Ok(Agenda { store: found.store, schema: found.next, going: None, lives })
+                Ok(Agenda {
+                    store: found.store,
+                    schema: found.next,
+                    going: None,
+                    lives,
+                })
             }
-            None => Ok(Agenda { store, schema: None, going, lives }),
+            None => Ok(Agenda {
+                store,
+                schema: None,
+                going,
+                lives,
+            }),
         }
     }
 
@@ -99,9 +114,19 @@ impl Agenda {
     pub fn spread(self, alloc: Global, sig: &Sig, schema: &Tree) -> Result<Agenda, NoMemory>
         ensures { IfOk result (λ agenda. (p : Progress) → IsAt self p → sig.now ≡ p.parts → IsTermSpent p → IsSchemaNext p schema.now → IsAt agenda (after_spread p schema.now)) }
     {
-        let Agenda { store, schema: next, going, lives } = self;
+        let Agenda {
+            store,
+            schema: next,
+            going,
+            lives,
+        } = self;
         let Some(last) = next else {
-            return Ok(Agenda { store, schema: None, going, lives });
+            return Ok(Agenda {
+                store,
+                schema: None,
+                going,
+                lives,
+            });
         };
         let spread = Spread {
             schema: schema.copy(alloc)?,
@@ -131,12 +156,27 @@ impl Agenda {
     pub fn take_term(self, alloc: Global, sig: &Sig, live: bool) -> Result<Agenda, NoMemory>
         ensures { IfOk result (λ agenda. (p : Progress) (t : Tree) → IsAt self p → sig.now ≡ p.parts → IsTermNext p t → IsAt agenda (after_term p t live)) }
     {
-        let Agenda { store, schema, going, lives: count } = self;
+        let Agenda {
+            store,
+            schema,
+            going,
+            lives: count,
+        } = self;
         let Some(going) = going else {
-            return Ok(Agenda { store, schema, going: None, lives: count });
+            return Ok(Agenda {
+                store,
+                schema,
+                going: None,
+                lives: count,
+            });
         };
         let Some(last) = schema else {
-            return Ok(Agenda { store, schema: None, going: None, lives: count });
+            return Ok(Agenda {
+                store,
+                schema: None,
+                going: None,
+                lives: count,
+            });
         };
         let lives = if live { count.saturating_add(1) } else { count };
         let Going { spread, instance } = going;
