@@ -34,3 +34,4 @@ pub mod Taking
 pub mod Telling
 pub mod Treeing
 pub mod Valuing
+pub mod AgendaFacts
