@@ -235,8 +235,7 @@ module _ (parts : SigParts) (lives : List Tree) (f : SymId) (c : Tree) (cs : Lis
       let same = k ∙ counts_are parts lives cs rs open'.ranges in
       let here = subst (λ l. IsFirstAbove (Lex IsLower) (IsRow l 0) [] walk.row) same first in
       let (ts, picked) = row_picks (pieces lives rs) 0 walk.row here.is in
-      let of : IsTermOf (pieces lives rs) f walk.row (App f ts) = (ts, picked, refl) in
-      (
+      let of : IsTermOf (pieces lives rs) f walk.row (App f ts) = (ts, picked, refl) in (
         App f ts,
         (subst (λ l. IsWalk walk l 0) same walk_is, of),
         (cs, e, open'),
@@ -252,8 +251,7 @@ module _ (parts : SigParts) (lives : List Tree) (f : SymId) (c : Tree) (cs : Lis
   is_next walk next t (walk_is, of) next_is first =
       let here = subst₂ (λ l n. IsFirstAbove (Lex IsLower) (IsRow l n) (walk.row ∷ []) next.row) walk_is.choices_are walk_is.weight_is first in
       let (ts, picked) = row_picks (pieces lives rs) 0 next.row here.is in
-      let of_next : IsTermOf (pieces lives rs) f next.row (App f ts) = (ts, picked, refl) in
-      (
+      let of_next : IsTermOf (pieces lives rs) f next.row (App f ts) = (ts, picked, refl) in (
         App f ts,
         (subst₂ (IsWalk next) walk_is.choices_are walk_is.weight_is next_is, of_next),
         (cs, e, open'),
@@ -275,8 +273,7 @@ module _ (parts : SigParts) (lives : List Tree) (sort : SortId) (c : Tree) (e : 
 
   pub first_var_instance : (count : ℕ) → count ≡ vars_at parts sort → FirstInstance parts lives c (Some (instance.Var sort 0 count))
   first_var_instance count k =
-      let some = open'.some in
-      (
+      let some = open'.some in (
         Var sort 0,
         refl,
         (e, open', k, omega arith),

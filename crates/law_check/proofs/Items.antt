@@ -139,9 +139,9 @@ closed parts spreads store more c e same is weighs sorted schema after w s l =
     shelf_full k sort d within declared at h sorted_d = elim (in_last spreads at) [
       | inl m ↦ is.stock.shelf_is.full k sort d within declared m h sorted_d
       | inr m ↦
-        let g = is.stock.long in
-        let f : weight parts d ≡ store.weight = ap (weight parts) m ∙ weighs in
-        absurd (omega arith)
+          let g = is.stock.long in
+          let f : weight parts d ≡ store.weight = ap (weight parts) m ∙ weighs in
+          absurd (omega arith)
     ]
 
     made : IsStore parts (spreads ++ c ∷ []) (record { weight = store.weight; level = store.level ++ e ∷ []; shelf = store.shelf })
@@ -185,7 +185,7 @@ fitting_more store more (candidate.App f walk) w h = tt
 
 pub candidate_weight : (parts : SigParts) (spreads : List Tree) (store : Store) (last : Candidate) (c : Tree) → IsStore parts spreads store → IsCandidate parts store.shelf store.weight last c → IsFitting store last
     → weight parts c ≡ store.weight
-candidate_weight parts spreads store (candidate.Var sort) c is e h = ap (weight parts) e ∙ weight-Var parts sort 0 ∙ sym h
+candidate_weight parts spreads store (candidate.Var sort) c is e h = ap (weight parts) e.0 ∙ weight-Var parts sort 0 ∙ sym h
 candidate_weight parts spreads store (candidate.App f walk) c is a h = (here_of parts spreads store.shelf store.weight is.stock f walk c a).1.weight_is
 
 pub considered_sort : (parts : SigParts) (spreads : List Tree) (c : Tree) → IsConsidered parts spreads c → (sort : SortId) × (sort_of parts c ≡ Some sort)

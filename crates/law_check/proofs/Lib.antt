@@ -10,7 +10,6 @@ pub mod Agreeing
 pub mod Forested
 pub mod Foresting
 pub mod Goes
-pub mod Agreeing
 pub mod Counted
 pub mod Comparing
 pub mod Bounds
@@ -35,3 +34,4 @@ pub mod Taking
 pub mod Telling
 pub mod Treeing
 pub mod Valuing
+pub mod AgendaFacts

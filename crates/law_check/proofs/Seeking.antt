@@ -85,8 +85,7 @@ module _ (parts : SigParts) (spreads : List Tree) (shelf : Shelf) (w : ℕ) (sto
       → FirstOf parts shelf w (Terms f) (Some (candidate.App f walk))
   first_by_rows f walk within explored heavy walk_is first =
       let (args, picked) = row_picks (lists_at parts shelf f) (w - weight_at parts f) walk.row first.is in
-      let of : IsTermOf (lists_at parts shelf f) f walk.row (App f args) = (args, picked, refl) in
-      (
+      let of : IsTermOf (lists_at parts shelf f) f walk.row (App f args) = (args, picked, refl) in (
         App f args,
         application_of f walk (App f args) within explored heavy walk_is of,
         first_first (Lex IsLower) (IsBefore parts) (Rows f) (Terms f) (IsTermOf (lists_at parts shelf f) f) (stand f within explored heavy) walk.row (App f args) of first,
@@ -103,8 +102,7 @@ module _ (parts : SigParts) (spreads : List Tree) (shelf : Shelf) (w : ℕ) (sto
   next_by_rows f walk next t a next_is first =
       let first_here = subst₂ (λ c n. IsFirstAbove (Lex IsLower) (IsRow c n) (walk.row ∷ []) next.row) a.walk_is.choices_are a.walk_is.weight_is first in
       let (args, picked) = row_picks (lists_at parts shelf f) (w - weight_at parts f) next.row first_here.is in
-      let of : IsTermOf (lists_at parts shelf f) f next.row (App f args) = (args, picked, refl) in
-      (
+      let of : IsTermOf (lists_at parts shelf f) f next.row (App f args) = (args, picked, refl) in (
         App f args,
         application_of f next (App f args) a.declared a.explored a.heavy (subst₂ (IsWalk next) a.walk_is.choices_are a.walk_is.weight_is next_is) of,
         next_next (Lex IsLower) (IsBefore parts) (Rows f) (Terms f) (IsTermOf (lists_at parts shelf f) f) (stand f a.declared a.explored a.heavy) walk.row next.row t (App f args) a.walk_is.row a.term_is of first_here,

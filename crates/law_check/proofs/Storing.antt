@@ -204,7 +204,7 @@ module _ (parts : SigParts) (spreads : List Tree) (store : Store) (is : IsStore 
           let n = ltb-true s.0 (length parts.sort_names) declared in
           let g = is.stock.long in
           let f : bucket More k s ≡ filter (is_of_sort parts s) store.level =
-              ap (λ z. slice_index_or z s.0 []) (at_end store.shelf New k [] (same ∙ sym is.stock.long)) ∙ row_at parts store.level (length parts.sort_names) s n in
+          ap (λ z. slice_index_or z s.0 []) (at_end store.shelf New k [] (same ∙ sym is.stock.long)) ∙ row_at parts store.level (length parts.sort_names) s n in
           subst (λ l. In c (schemas_in l)) (sym f ∙ e) (fresh same)
 
       by : Bucket k s → In c (schemas_in (bucket More k s))

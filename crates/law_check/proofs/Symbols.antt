@@ -160,12 +160,11 @@ module _ (parts : SigParts) (spreads : List Tree) (shelf : Shelf) (are : AreSche
 
       considered : (args : List Tree) → IsChosen (lists_for shelf (args_of u.symbol)) (w - weight_at parts f) args → Here parts (IsConsidered parts spreads) w 1 f.0 (App f args)
       considered args c =
-          let (each, sorts, sum) = chosen_args (args_of u.symbol) (w - weight_at parts f) args c in
-          (
+          let (each, sorts, sum) = chosen_args (args_of u.symbol) (w - weight_at parts f) args c in (
             application f args (result_of u.symbol) u.explored each
                 (app_sorted parts f args (result_of u.symbol) (record { symbol = u.symbol; declared = u.declared; result = refl; sorts = sorts }))
                 (subst (λ n. n ≤ parts.settings.size) (sym (weighs_w args sum)) u.small),
-            record { weight_is = weighs_w args sum; kind_is = ap kind_in (outs-App f args); number_is = ap number_in (outs-App f args) }
+            record { weight_is = weighs_w args sum; kind_is = ap kind_in (outs-App f args); number_is = ap number_in (outs-App f args) },
           )
 
       args_of_applied : (t : Tree) → (a : IsApplied parts spreads w f t) → IsChosen (lists_at parts shelf f) (w - weight_at parts f) a.args

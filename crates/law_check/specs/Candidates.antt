@@ -35,7 +35,7 @@ pub record IsApplication (parts : SigParts) (shelf : Shelf) (w : ℕ) (f : SymId
   pub heavy : weight_at parts f ≤ w
 
 abbrev pub IsCandidate : SigParts → Shelf → ℕ → Candidate → Tree → Type 0
-IsCandidate parts shelf w (candidate.Var sort) t = t ≡ Var sort 0
+IsCandidate parts shelf w (candidate.Var sort) t = (t ≡ Var sort 0) × (w ≡ 1)
 IsCandidate parts shelf w (candidate.App f walk) t = IsApplication parts shelf w f walk t
 
 -- the spread schemas stand on a shelf up to a weight

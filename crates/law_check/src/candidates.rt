@@ -10,7 +10,7 @@ ghost use Rattle.law_sig.specs.declared.parts.SigParts.{SigParts};
 ghost use Rattle.law_check.specs.Shelves.{Shelf};
 ghost use Rattle.law_check.specs.Walking.{IsWalk};
 
-use super::shelves::{choices, Spread};
+use super::shelves::{Spread, choices};
 use super::walks::Walk;
 use law_sig::{NoMemory, Seq, Sig, SortId, SymId};
 use std::alloc::Global;

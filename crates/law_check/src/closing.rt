@@ -11,7 +11,7 @@ ghost use Rattle.law_check.specs.Stores.{IsStore, IsFitting, IsItem};
 use super::candidates::Candidate;
 use super::rows::Pick;
 use super::shelves::Spread;
-use super::stores::{next_schema, Found, Store};
+use super::stores::{Found, Store, next_schema};
 use law_sig::{NoMemory, Seq, Sig, SortId, Tree};
 use std::alloc::Global;
 
@@ -80,7 +80,12 @@ pub fn is_candidate(sig: &Sig, store: &Store, candidate: &Candidate, term: &Tree
             if sym.0 != head.0 {
                 return false;
             }
-            are_schemas(store.shelf.as_slice(), sig.args_of(*sym), walk.row(), args.as_slice())
+            are_schemas(
+                store.shelf.as_slice(),
+                sig.args_of(*sym),
+                walk.row(),
+                args.as_slice(),
+            )
         }
         _ => false,
     }
@@ -103,7 +108,13 @@ pub fn empty_store(alloc: Global, sig: &Sig) -> Result<Store, NoMemory>
 }
 
 /// The schema that comes after this one, which is put into the store.
-pub fn close(alloc: Global, sig: &Sig, store: Store, last: Candidate, spread: Spread) -> Result<Found, NoMemory>
+pub fn close(
+    alloc: Global,
+    sig: &Sig,
+    store: Store,
+    last: Candidate,
+    spread: Spread,
+) -> Result<Found, NoMemory>
     ensures items { IfOk result (λ r. (e : Spread) → IsItem r.store e → IsItem store e ⊎ (e ≡ spread)) }
     ensures next { IfOk result (λ r. (spreads : List Tree) → IsStore sig.now spreads store → IsCandidate sig.now store.shelf store.weight last spread.schema → IsFitting store last
         → IsClosed sig.now spreads spread.schema → IsStore sig.now (spreads ++ spread.schema ∷ []) r.store

@@ -6,26 +6,11 @@ ghost use Rattle.law_sig.specs.Signature.{sort_of};
 ghost use Rattle.law_check.specs.Planted.{IsOfSort, AreNumbers, AreGroups, IsAdded, same_number, group};
 
 use super::lines::push_all;
+use super::terms::schema;
 use indexmap::IndexMap;
 use law_sig::{NoMemory, Seq, Sig, SortId, Tree};
 use law_test::TermTable;
 use std::alloc::Global;
-
-/// A term with every variable's index set to 0.
-fn schema(alloc: Global, term: &Tree) -> Result<Tree, NoMemory>
-    ensures { IfOk result (λ tree. tree ≡ schema_of term.now) }
-{
-    match term {
-        Tree::Var(sort, _) => Ok(Tree::Var(*sort, 0)),
-        Tree::App(head, args) => {
-            let mut schemas = Seq::new(alloc);
-            for arg in args.as_slice() {
-                schemas.push(schema(alloc, arg)?)?;
-            }
-            Ok(Tree::App(*head, schemas))
-        }
-    }
-}
 
 /// Whether a term is of a sort.
 pub fn is_of_sort(sig: &Sig, term: &Tree, sort: SortId) -> bool

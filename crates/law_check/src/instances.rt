@@ -8,7 +8,7 @@ ghost use Rattle.law_sig.specs.Signature.{symbol_at};
 ghost use Rattle.law_sig.specs.declared.parts.SigParts.{SigParts};
 ghost use Rattle.law_sig.specs.declared.tree.Tree.TheVariants.{App};
 
-use super::candidates::{vars_at, Candidate};
+use super::candidates::{Candidate, vars_at};
 use super::rows::Pick;
 use super::shelves::Spread;
 use super::walks::Walk;
@@ -38,7 +38,10 @@ fn range_in(level: &Seq<Seq<Spread>>, sort: SortId, at: usize) -> Range
         return Range { from: 0, to: 0 };
     };
     match spreads.get(at) {
-        Some(spread) => Range { from: spread.from, to: spread.to },
+        Some(spread) => Range {
+            from: spread.from,
+            to: spread.to,
+        },
         None => Range { from: 0, to: 0 },
     }
 }

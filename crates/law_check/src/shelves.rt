@@ -88,7 +88,12 @@ fn gives_sort(sig: &Sig, sort: SortId, sym: SymId) -> bool
 }
 
 /// Those of a sort.
-fn of_sort(alloc: Global, sig: &Sig, level: &[Spread], sort: SortId) -> Result<Seq<Spread>, NoMemory>
+fn of_sort(
+    alloc: Global,
+    sig: &Sig,
+    level: &[Spread],
+    sort: SortId,
+) -> Result<Seq<Spread>, NoMemory>
     ensures { IfOk result (λ found. found ≡ filter (is_of_sort sig.now sort) level.now) }
 {
     let mut found = Seq::new(alloc);

@@ -7,8 +7,8 @@ ghost use Rattle.law_check.specs.Shelves.{sorted_out};
 ghost use Rattle.law_check.specs.Stages.{Onward};
 ghost use Rattle.law_check.specs.Stores.{IsStore, FirstVar, IsFitting, HasNoOther};
 
-use super::candidates::{first_from_symbol, next_of_symbol, vars_at, Candidate};
-use super::shelves::{sorted_out, Spread};
+use super::candidates::{Candidate, first_from_symbol, next_of_symbol, vars_at};
+use super::shelves::{Spread, sorted_out};
 use law_sig::{NoMemory, Seq, Sig, SortId};
 use std::alloc::Global;
 
@@ -50,7 +50,10 @@ fn first_application(alloc: Global, sig: &Sig, store: Store, from: u32) -> Resul
         → IsStore sig.now spreads r.store × FirstOf sig.now r.store.shelf r.store.weight (Onward sig.now (IsConsidered sig.now spreads) store.weight 1 from) r.next) }
 {
     match first_from_symbol(alloc, sig, store.shelf.as_slice(), store.weight, from)? {
-        Some(found) => Ok(Found { store, next: Some(found) }),
+        Some(found) => Ok(Found {
+            store,
+            next: Some(found),
+        }),
         None => {
             if store.weight >= sig.settings().size {
                 return Ok(Found { store, next: None });
@@ -81,13 +84,21 @@ pub fn first_schema(alloc: Global, sig: &Sig, store: Store, from: u32) -> Result
         → IsStore sig.now spreads r.store × FirstOf sig.now r.store.shelf r.store.weight (Onward sig.now (IsConsidered sig.now spreads) 1 0 from) r.next) }
 {
     match first_var(sig, from) {
-        Some(sort) => Ok(Found { store, next: Some(Candidate::Var(sort)) }),
+        Some(sort) => Ok(Found {
+            store,
+            next: Some(Candidate::Var(sort)),
+        }),
         None => first_application(alloc, sig, store, 0),
     }
 }
 
 /// The schema that comes after this one.
-pub fn next_schema(alloc: Global, sig: &Sig, store: Store, last: Candidate) -> Result<Found, NoMemory>
+pub fn next_schema(
+    alloc: Global,
+    sig: &Sig,
+    store: Store,
+    last: Candidate,
+) -> Result<Found, NoMemory>
     ensures items { IfOk result (λ r. HasNoOther store r.store) }
     ensures next { IfOk result (λ r. (spreads : List Tree) (t : Tree) → IsStore sig.now spreads store → IsCandidate sig.now store.shelf store.weight last t → IsConsidered sig.now spreads t → IsFitting store last
         → IsStore sig.now spreads r.store × NextOf sig.now r.store.shelf r.store.weight (IsConsidered sig.now spreads) t r.next) }
@@ -95,7 +106,10 @@ pub fn next_schema(alloc: Global, sig: &Sig, store: Store, last: Candidate) -> R
     match last {
         Candidate::Var(sort) => first_schema(alloc, sig, store, sort.0.saturating_add(1)),
         Candidate::App(sym, walk) => match next_of_symbol(alloc, sym, walk)? {
-            Some(next) => Ok(Found { store, next: Some(next) }),
+            Some(next) => Ok(Found {
+                store,
+                next: Some(next),
+            }),
             None => first_application(alloc, sig, store, sym.0.saturating_add(1)),
         },
     }

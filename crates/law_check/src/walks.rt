@@ -4,7 +4,7 @@ ghost use Rattle.law_valid.specs.Expected.{IsFirstAbove, IsSpent};
 ghost use Rattle.law_check.specs.Rows.{Lex, IsLower, IsRow, AreFits};
 ghost use Rattle.law_check.specs.Walking.{IsWalk};
 
-use super::rows::{first_from, fits_of, next_row, Pick};
+use super::rows::{Pick, first_from, fits_of, next_row};
 use law_sig::{NoMemory, Seq};
 use std::alloc::Global;
 
@@ -19,13 +19,28 @@ pub struct Walk {
 
 impl Walk {
     /// At the first row.
-    pub fn start(alloc: Global, choices: Seq<Seq<usize>>, weight: u32) -> Result<Option<Walk>, NoMemory>
+    pub fn start(
+        alloc: Global,
+        choices: Seq<Seq<usize>>,
+        weight: u32,
+    ) -> Result<Option<Walk>, NoMemory>
         ensures { IfOk result (λ r. MatchOption r (IsSpent (Lex IsLower) (IsRow choices weight) [])
             (λ walk. IsWalk walk choices weight × IsFirstAbove (Lex IsLower) (IsRow choices weight) [] walk.row)) }
     {
         let fits = fits_of(alloc, choices.as_slice(), weight as usize)?;
-        match first_from(alloc, choices.as_slice(), fits.as_slice(), weight as usize, 0)? {
-            Some(row) => Ok(Some(Walk { choices, fits, weight, row })),
+        match first_from(
+            alloc,
+            choices.as_slice(),
+            fits.as_slice(),
+            weight as usize,
+            0,
+        )? {
+            Some(row) => Ok(Some(Walk {
+                choices,
+                fits,
+                weight,
+                row,
+            })),
             None => Ok(None),
         }
     }
@@ -35,8 +50,19 @@ impl Walk {
         ensures { IfOk result (λ r. IsWalk self self.choices self.weight → MatchOption r (IsSpent (Lex IsLower) (IsRow self.choices self.weight) (self.row ∷ []))
             (λ walk. IsWalk walk self.choices self.weight × IsFirstAbove (Lex IsLower) (IsRow self.choices self.weight) (self.row ∷ []) walk.row)) }
     {
-        match next_row(alloc, self.choices.as_slice(), self.fits.as_slice(), self.weight as usize, self.row.as_slice())? {
-            Some(row) => Ok(Some(Walk { choices: self.choices, fits: self.fits, weight: self.weight, row })),
+        match next_row(
+            alloc,
+            self.choices.as_slice(),
+            self.fits.as_slice(),
+            self.weight as usize,
+            self.row.as_slice(),
+        )? {
+            Some(row) => Ok(Some(Walk {
+                choices: self.choices,
+                fits: self.fits,
+                weight: self.weight,
+                row,
+            })),
             None => Ok(None),
         }
     }

@@ -12,7 +12,7 @@ returns-in-Some-clause-first c = λ spreads is one. (
   is,
   (
     Var c.in-Some.sort 0,
-    refl,
+    (refl, one),
     first_var_is c.args.sig.now spreads is.stock.schemas c.args.from c.in-Some.sort (some_case _ _ c.first_var.result c.in-Some.sort c.in-Some.is c.first_var.ensures),
   ),
 )
@@ -20,8 +20,7 @@ returns-in-Some-clause-first c = λ spreads is one. (
 pub returns-in-None-clause-first : goal.returns-in-None-clause-first
 returns-in-None-clause-first c = if_ok _ _ c.first_application.result
     (λ r go spreads is one.
-    let h = go spreads is in
-    (
+    let h = go spreads is in (
       h.0,
       first_changed c.args.sig.now (Onward c.args.sig.now (IsConsidered c.args.sig.now spreads) 1 1 0) (Onward c.args.sig.now (IsConsidered c.args.sig.now spreads) 1 0 c.args.from)
           r.store.shelf r.store.weight r.next (all_later c.args.sig.now spreads is.stock.schemas c.args.from)
