@@ -1,16 +1,23 @@
 -- What a checker says of a certificate.
-use Rattle.std.specs.Prelude.{◌≡◌, ℕ, List, length, Bool, true, false}
+use Rattle.std.specs.Prelude.{◌≡◌, ℕ, List, [], None, length, Bool, true, false}
 use Rattle.std.specs.List.{filter}
 use Rattle.law_sig.specs.Laws.{IsCovered}
 use Rattle.law_sig.specs.declared.tree.Tree.{Tree}
+use Rattle.law_sig.specs.declared.parts.SigParts.{SigParts}
+use Rattle.law_read.specs.declared.raw.RawLine.{RawLine}
 use Rattle.law_cert.specs.declared.cert.Cert.{Cert}
 use Rattle.law_cert.specs.declared.cert.Entry.{Entry}
 use Rattle.law_cert.specs.declared.cert.Entry.TheVariants as e
 use Rattle.law_types.specs.Naming.{named_term}
+use Rattle.law_types.specs.Typed.{IsTypedAs}
+use Rattle.law_gen.specs.Draws.{pools_by}
+use Rattle.law_valid.specs.declared.certificate.SortTree.{SortTree}
+use Rattle.law_valid.specs.declared.rule.Answer.{Answer}
 use Rattle.law_valid.specs.declared.rule.Answer.TheVariants as answer
+use Rattle.law_valid.specs.declared.rule.Rule.TheVariants as r
 use Rattle.law_valid.specs.Stated.{stated, law_at}
-use Rattle.law_valid.specs.Judged.{Judged}
-use Rattle.law_valid.specs.Named.{pools_named, entries_named, Meaning, IsValidCert, JudgedCert}
+use Rattle.law_valid.specs.Judged.{If, Background, Entries, InTrees, entry_after, Judged}
+use Rattle.law_valid.specs.Named.{pools_named, entries_named, AreTreesOf, Meaning, IsValidCert, JudgedCert}
 use Rattle.law_check.specs.declared.verdict.Counts.{Counts}
 use Rattle.law_check.specs.declared.verdict.Verdict.{Verdict}
 use Rattle.law_check.specs.declared.verdict.Verdict.TheVariants as v
@@ -40,6 +47,22 @@ abbrev pub counted : List Entry → Counts
 counted xs = record { laws = length (filter is_law xs); live = length (filter is_live xs); moved = length (filter is_moved xs); killed = length (filter is_killed xs) }
 
 -- Verdicts
+
+-- the lines state no signature
+abbrev pub StatesNone : List RawLine → Type 0
+StatesNone lines = (parts : SigParts) → IsTypedAs lines parts → ⊥
+
+-- what is answered of a certificate over a signature, whichever trees its lines are; and where nothing was wrong before its
+-- pools
+abbrev pub JudgedOver : SigParts → Cert → Answer → Type 0
+JudgedOver parts cert a = (trees : List SortTree) → AreTreesOf parts cert.trees trees
+    → Judged parts (pools_named parts cert.pools) (entries_named parts cert.entries) trees a
+
+abbrev pub JudgedPools : SigParts → Cert → Answer → Type 0
+JudgedPools parts cert a = (trees : List SortTree) → AreTreesOf parts cert.trees trees
+    → If (pools_named parts cert.pools ≡ pools_by parts) (answer.No r.V2 0)
+    (Background parts (pools_named parts cert.pools) parts.settings.background
+    (Entries parts (pools_named parts cert.pools) (InTrees parts (pools_named parts cert.pools) (entries_named parts cert.entries) (entry_after (entries_named parts cert.entries)) [] trees) [] None (entries_named parts cert.entries))) a
 
 -- a yes comes with the counts, and a no is what the order of checking finds first
 abbrev pub IsVerdict : Cert → Verdict → Type 0

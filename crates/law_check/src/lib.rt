@@ -2,9 +2,35 @@
 //! of how a certificate is made.
 #![tactic(auto)]
 
+mod agenda;
+mod candidates;
+mod check;
+mod counts;
+mod entries;
+mod forest;
+mod groups;
+mod closing;
+mod instances;
+mod judge;
+mod lines;
+mod names;
+mod once;
+mod pools;
+mod replay;
+mod rows;
+mod rules;
+mod shelves;
+mod splits;
+mod stores;
+mod term;
+mod terms;
+#[cfg(test)]
+mod tests;
+mod trees;
+mod values;
 mod verdict;
-mod verify;
+mod walks;
 
+pub use check::verify;
 pub use law_valid::Rule;
 pub use verdict::{CheckErr, Counts, Verdict};
-pub use verify::verify;

@@ -1,24 +1,23 @@
 -- The values of terms at tests, in a bank that grows.
-use Rattle.std.proofs.Common.{◌≡◌, ℕ, zero, suc, ◌+◌, ◌*◌, ◌^◌, ◌<◌, ◌≤◌, ◌++◌, take, slice_get, slice_index_or, Option, Some, None, List, [], ◌∷◌, map, length, IsTrue, option_map, option_and_then, sym, refl, ap, ap₂, ◌∙◌, subst, arith}
-use Rattle.std.proofs.lemmas.List.{length-map}
+use Rattle.std.proofs.Common.{◌≡◌, ℕ, zero, suc, ◌+◌, ◌^◌, ◌<◌, ◌≤◌, ◌++◌, take, slice_get, slice_index_or, Option, Some, None, List, [], ◌∷◌, map, length, IsTrue, option_map, option_and_then, sym, refl, ap, ◌∙◌, subst, arith}
 use Rattle.std.proofs.lemmas.Option.{slice_get-get_or}
-use Rattle.law_sig.specs.Lists.{Each, product}
-use Rattle.law_sig.specs.Signature.{args_of, vars_at}
+use Rattle.law_sig.specs.Lists.{Each}
+use Rattle.law_sig.specs.Signature.{args_of}
 use Rattle.law_sig.specs.Evaluate.{Made, ap as applied}
-use Rattle.law_sig.specs.Tests.{assignments, test_count, value_at, all_present}
+use Rattle.law_sig.specs.Tests.{test_count, all_present}
 use Rattle.law_sig.specs.WellFormed.{IsWellFormed}
 use Rattle.law_sig.specs.declared.tree.SortId.{SortId}
 use Rattle.law_sig.specs.declared.tree.SymId.{SymId}
 use Rattle.law_sig.specs.declared.tree.Tree.{Tree}
-use Rattle.law_sig.specs.declared.tree.Tree.TheVariants.{Var, App}
+use Rattle.law_sig.specs.declared.tree.Tree.TheVariants.{App}
 use Rattle.law_sig.specs.declared.parts.SigParts.{SigParts}
 use Rattle.law_laws.specs.Renaming.{has_vars}
 use Rattle.law_laws.proofs.Renaming.{vars-App}
 use Rattle.law_laws.proofs.Sorts.{HaveSorts, sorted_app}
-use Rattle.law_laws.proofs.TreeFacts.{val-Var, val-App}
+use Rattle.law_laws.proofs.TreeFacts.{val-App}
 use Rattle.law_value.specs.declared.bank.ValueId.{ValueId}
 use Rattle.law_value.specs.Values.{IsOf, AreOf, tree_of, trees_of, Grows}
-use Rattle.law_pool.specs.Table.{PoolTable, IsFor, pools_of, radices_by, tests_of, vars_of}
+use Rattle.law_pool.specs.Table.{PoolTable, IsFor, pools_of}
 use Rattle.law_value.proofs.BankFacts.{take_all}
 use Rattle.law_pool.proofs.Reading.{list_keeps, sorts_keep, id_keeps, each_at, take_next}
 use Rattle.law_gen.specs.Draws.{pools_by}
@@ -43,23 +42,6 @@ value_stays parts old new test t v grows is =
 pub count_is : (parts : SigParts) (bank : List Tree) (table : PoolTable) (n : ℕ) → ArePools parts bank table
     → ((own : SigParts) (b : List Tree) → IsFor own table → n ≡ test_count own (pools_of b table.ids)) → n ≡ tests_by parts
 count_is parts bank table n p is = is parts bank p.fits ∙ ap (test_count parts) p.are
-
-pub tests_are : (parts : SigParts) (bank : List Tree) (table : PoolTable) → ArePools parts bank table → tests_of table ≡ tests_by parts
-tests_are parts bank table p =
-    ap₂ ◌*◌ (sym (length-map table.ids (map (trees_of bank)))) (ap₂ (λ vs ws. product (radices_by vs ws)) p.fits.vars p.fits.width)
-    ∙ ap (λ ps. length ps * assignments parts) p.are
-
-pub vars_are : (parts : SigParts) (bank : List Tree) (table : PoolTable) (sort : SortId) → ArePools parts bank table → vars_of table sort ≡ vars_at parts sort
-vars_are parts bank table sort p = ap (λ vs. slice_index_or vs sort.0 0) p.fits.vars
-
--- Variables
-
-pub variable_value : (parts : SigParts) (bank : List Tree) (table : PoolTable) (test : ℕ) (s : SortId) (i : ℕ) (v : ValueId) → ArePools parts bank table
-    → value_at parts (pools_of bank table.ids) test s i ≡ Some (tree_of bank v) → IsOf bank v → IsValue parts bank test (Var s i) v
-variable_value parts bank table test s i v p e held = record {
-  held = held;
-  is = val-Var parts (pools_by parts) test s i ∙ ap (λ ps. value_at parts ps test s i) (sym p.are) ∙ e;
-}
 
 -- Applications
 

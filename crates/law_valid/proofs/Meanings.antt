@@ -1,14 +1,23 @@
 -- A certificate states one thing at most, so one answer is given of it. What is written by names is read back.
-use Rattle.std.proofs.Common.{◌≡◌, ◌<◌, inl, inr, List, length, IsSome, unwrap_or, rules, sym, ap, ◌∙◌, subst}
+use Rattle.std.proofs.Common.{◌≡◌, ℕ, inl, inr, List, [], length, Option, Some, None, IsSome, unwrap_or, refl, sym, ap, ◌∙◌, subst}
 use Rattle.law_sig.specs.Signature.{sort_of}
 use Rattle.law_sig.specs.WellFormed.{IsWellFormed, IsDeclared}
 use Rattle.law_sig.specs.declared.tree.SortId.{SortId}
 use Rattle.law_sig.specs.declared.tree.Tree.{Tree}
 use Rattle.law_sig.specs.declared.tree.Tree.TheVariants.{Var}
 use Rattle.law_sig.specs.declared.parts.SigParts.{SigParts}
-use Rattle.law_types.specs.Naming.{sort_name, named_term}
+use Rattle.law_laws.proofs.TreeFacts.{fold-Var, same_var}
+use Rattle.law_laws.proofs.Sorts.{var_sorted}
+use Rattle.law_laws.proofs.BodyFacts.{some_is, none_is}
+use Rattle.law_read.specs.declared.raw.RawHead.TheVariants as head
+use Rattle.law_read.specs.declared.raw.RawTerm.{RawTerm}
+use Rattle.law_read.specs.declared.raw.RawTerm.TheOpen.{RawTerm-F}
+use Rattle.law_read.specs.declared.raw.RawTerm.TheFolds.{fold-roll-RawTerm}
+use Rattle.law_types.specs.Names.{number_of}
+use Rattle.law_types.specs.Naming.{sort_name, named_term, name_step}
+use Rattle.law_types.specs.TypedTerm.{tree_of, tree_step, variable_of}
+use Rattle.law_types.specs.Laws.{NamedStatesTerm}
 use Rattle.law_types.proofs.OneSignature.{one_signature}
-use Rattle.law_types.proofs.TreeOfFacts.{number_again, found_again}
 use Rattle.law_cert.specs.declared.cert.Cert.{Cert}
 use Rattle.law_valid.specs.declared.certificate.SortTree.{SortTree}
 use Rattle.law_valid.specs.Judged.{Judged}
@@ -35,16 +44,25 @@ one_cert_answer cert a b (inl h) (inr k) = absurd (k.0 h.0.parts h.0.typed)
 one_cert_answer cert a b (inr h) (inl k) = absurd (h.0 k.0.parts k.0.typed)
 one_cert_answer cert a b (inr h) (inr k) = h.1 ∙ sym k.1
 
-sort_back : (parts : SigParts) → IsWellFormed parts → (sort : SortId) → IsDeclared parts sort → sort_named parts (sort_name parts sort) ≡ sort
-sort_back parts formed sort declared =
-    let within : sort.0 < length parts.sort_names = search (rules, declared) in
-    ap (λ n. record { 0 = unwrap_or n (length parts.sort_names) }) (number_again parts.sort_names sort.0 formed.sort_names.distinct within)
+-- what a variable that is written by its sort's name states
+variable_is : (parts : SigParts) (sort : SortId) → variable_of (number_of parts.sort_names (sort_name parts sort)) 0 [] ≡ tree_of parts (named_term parts (Var sort 0))
+variable_is parts sort =
+    let layer : RawTerm-F RawTerm = record { head = head.Var (sort_name parts sort) 0; args = [] } in
+    sym (fold-roll-RawTerm (Option Tree) (tree_step parts) layer) ∙ ap (tree_of parts) (sym (fold-Var RawTerm (name_step parts) sort 0))
 
-term_back : (parts : SigParts) → IsWellFormed parts → (tree : Tree) → IsSome (sort_of parts tree) → term_named parts (named_term parts tree) ≡ tree
-term_back parts formed tree sorted =
-    ap (λ t. unwrap_or t (Var (record { 0 = length parts.sort_names }) 0)) (found_again parts formed tree sorted)
+sort_back : NamedStatesTerm → (parts : SigParts) → IsWellFormed parts → (sort : SortId) → IsDeclared parts sort → sort_named parts (sort_name parts sort) ≡ sort
+sort_back states parts formed sort declared = by (number_of parts.sort_names (sort_name parts sort))
+    (variable_is parts sort ∙ states parts (Var sort 0) formed (subst IsSome (sym (var_sorted parts sort 0 declared)) refl))
+  where
+    by : (o : Option ℕ) → variable_of o 0 [] ≡ Some (Var sort 0) → ◌≡◌ {A = SortId} (record { 0 = unwrap_or o (length parts.sort_names) }) sort
+    by None h = none_is (Var sort 0) h
+    by (Some n) h = (same_var (record { 0 = n }) sort 0 0 (some_is (Var (record { 0 = n }) 0) (Var sort 0) h)).0
 
-pub names_back : (parts : SigParts) → IsWellFormed parts
+term_back : NamedStatesTerm → (parts : SigParts) → IsWellFormed parts → (tree : Tree) → IsSome (sort_of parts tree) → term_named parts (named_term parts tree) ≡ tree
+term_back states parts formed tree sorted =
+    ap (λ t. unwrap_or t (Var (record { 0 = length parts.sort_names }) 0)) (states parts tree formed sorted)
+
+pub names_back : NamedStatesTerm → (parts : SigParts) → IsWellFormed parts
     → ((sort : SortId) → IsDeclared parts sort → sort_named parts (sort_name parts sort) ≡ sort)
     × ((tree : Tree) → IsSome (sort_of parts tree) → term_named parts (named_term parts tree) ≡ tree)
-names_back parts formed = (sort_back parts formed, term_back parts formed)
+names_back states parts formed = (sort_back states parts formed, term_back states parts formed)

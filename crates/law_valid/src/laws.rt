@@ -2,6 +2,8 @@ ghost use Rattle.law_valid.specs.Certificates.{CertCovers, CertYesIsValid, OneCe
 ghost use Rattle.law_valid.specs.Checking.{YesIsValid, OneAnswer};
 ghost use Rattle.law_valid.specs.Coverage.{ChainsDerive, ValidCovers};
 
+use law_types::typing_laws;
+
 /// The laws of a valid certificate cover the universe. A chain that replays is a derivation.
 pub fn coverage_laws()
     ensures chains { ChainsDerive }
@@ -24,4 +26,6 @@ pub fn certificate_laws()
     ensures reading { OneReading }
     ensures spelled { SpelledMeans }
     ensures names { NamesReadBack }
-{}
+{
+    typing_laws();
+}

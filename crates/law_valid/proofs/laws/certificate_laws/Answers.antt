@@ -25,5 +25,5 @@ returns c = record {
   one = one_cert_answer;
   reading = one_reading;
   spelled = spelled_means;
-  names = names_back;
+  names = names_back c.typing_laws.ensures.named;
 }

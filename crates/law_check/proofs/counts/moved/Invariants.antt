@@ -1,0 +1,7 @@
+use Rattle.std.proofs.Common.{◌≡◌, ◌+◌, ◌≤◌, drop, length}
+use Rattle.std.specs.List.{filter}
+use Rattle.law_check.specs.Verdicts.{is_moved}
+use Rattle.law_check.proofs.counts.moved.Given as goal
+
+abbrev pub invariant-loop-entry : goal.invariant-loop-entry
+invariant-loop-entry l = (l.count + length (filter is_moved (drop l.entry-index l.entries)) ≡ length (filter is_moved l.entries)) × (l.count ≤ l.entry-index)

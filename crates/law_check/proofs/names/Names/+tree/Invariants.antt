@@ -1,0 +1,6 @@
+use Rattle.std.proofs.Common.{◌≡◌, map, take, Some}
+use Rattle.law_types.specs.TypedTerm.{tree_of}
+use Rattle.law_check.proofs.names.Names.+tree.Given as goal
+
+abbrev pub invariant-loop-arg : goal.invariant-loop-arg
+invariant-loop-arg l = map Some l.args ≡ map (tree_of l.self) (take l.arg-index l.arg-items)
