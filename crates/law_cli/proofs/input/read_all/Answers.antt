@@ -1,4 +1,4 @@
-use Rattle.std.proofs.Common.{rules, arith, refl, sym, ◌∙◌, ◌≡◌, [], ◌+◌, ◌++◌, take, drop, length-append, subst}
+use Rattle.std.proofs.Common.{rules, arith, refl, sym, ◌∙◌, [], ◌+◌, ◌++◌, take, drop, subst}
 use Rattle.std.proofs.lemmas.List.{length-take, take-append-le}
 use Rattle.law_io.proofs.LeftFacts.{Consumes-none}
 use Rattle.law_cli.specs.Commands.{most_bytes}
