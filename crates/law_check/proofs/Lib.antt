@@ -35,3 +35,4 @@ pub mod Telling
 pub mod Treeing
 pub mod Valuing
 pub mod AgendaFacts
+pub mod Spreading
