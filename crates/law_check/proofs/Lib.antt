@@ -36,3 +36,4 @@ pub mod Treeing
 pub mod Valuing
 pub mod AgendaFacts
 pub mod Spreading
+pub mod TakingTerms

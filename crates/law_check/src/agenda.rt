@@ -1,4 +1,4 @@
-ghost use Rattle.std.specs.Prelude.{◌≡◌, ◌↔◌, IfOk, IsTrue};
+ghost use Rattle.std.specs.Prelude.{◌≡◌, ◌↔◌, suc, if◌then◌else◌, IfOk, IsTrue};
 ghost use Rattle.law_sig.specs.declared.tree.Tree.{Tree};
 ghost use Rattle.law_check.specs.Agendas.{IsAt};
 ghost use Rattle.law_check.specs.Progress.{Progress, at_start, after_spread, after_killed, after_term, IsSchemaNext, AreSpent, IsTermNext, IsTermSpent};
@@ -25,6 +25,19 @@ pub struct Agenda {
     schema: Option<Candidate>,
     going: Option<Going>,
     lives: usize,
+}
+
+/// How many live terms there are after one more term, which is live or moved.
+fn more_lives(count: usize, live: bool) -> Result<usize, NoMemory>
+    ensures { IfOk result (λ n. n ≡ (if live then suc count else count)) }
+{
+    if !live {
+        return Ok(count);
+    }
+    match count.checked_add(1) {
+        Some(more) => Ok(more),
+        None => Err(NoMemory),
+    }
 }
 
 impl Agenda {
@@ -178,7 +191,7 @@ impl Agenda {
                 lives: count,
             });
         };
-        let lives = if live { count.saturating_add(1) } else { count };
+        let lives = more_lives(count, live)?;
         let Going { spread, instance } = going;
         match next_instance(alloc, instance)? {
             Some(instance) => Ok(Agenda {
