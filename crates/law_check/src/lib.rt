@@ -5,11 +5,11 @@
 mod agenda;
 mod candidates;
 mod check;
+mod closing;
 mod counts;
 mod entries;
 mod forest;
 mod groups;
-mod closing;
 mod instances;
 mod judge;
 mod lines;
