@@ -24,8 +24,6 @@ mod splits;
 mod stores;
 mod term;
 mod terms;
-#[cfg(test)]
-mod tests;
 mod trees;
 mod values;
 mod verdict;
