@@ -86,7 +86,6 @@ impl<'s> Names<'s> {
     }
 
     /// The term with each name replaced by its number; `None` where one isn't declared.
-    #[tactic(auto, using(crate::proofs::NameFacts::tree_facts))]
     fn tree(&self, alloc: Global, term: &RawTerm) -> Result<Option<Tree>, NoMemory>
         ensures { IfOk result (λ found. found ≡ tree_of self.now term.now) }
     {
@@ -235,7 +234,6 @@ fn copy_bytes(alloc: Global, name: &Text) -> Result<Vec<u8>, NoMemory>
 }
 
 /// Adds an entry for a key that has none.
-#[tactic(auto, using(crate::proofs::NameFacts::entered))]
 fn note(table: &mut IndexMap<Vec<u8>, u32>, key: Vec<u8>, number: u32) -> Result<(), NoMemory>
     requires { noted key.items table.old.entries ≡ None }
     ensures { OnOk result (table.new.entries ≡ table.old.entries ++ (key, number) ∷ []) }

@@ -20,5 +20,4 @@ pub mod KnownFacts
 pub mod VectorsTell
 pub mod RefusalFacts
 pub mod ListedFacts
-pub mod NameFacts
 pub mod Spelled

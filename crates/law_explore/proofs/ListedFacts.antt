@@ -17,7 +17,8 @@ use Rattle.law_explore.specs.Firsts.{AreFirsts}
 use Rattle.law_explore.specs.Equations.{equations}
 use Rattle.law_explore.specs.Refusals.{HasSmallValues}
 use Rattle.law_explore.specs.Values.{IsVector, AreVectors, items_of}
-use Rattle.law_explore.specs.LawList.{AreLaws, IsBackgroundTrue, IsLawListOf}
+use Rattle.law_sig.specs.Laws.{IsBackgroundTrue}
+use Rattle.law_explore.specs.LawList.{AreLaws, IsLawListOf}
 use Rattle.law_explore.proofs.BothFacts.{both_long}
 use Rattle.law_explore.proofs.LawFacts.{equations_are, has_least}
 use Rattle.law_explore.proofs.VectorsTell.{own_vector, vectors_are, vectors_tell, all_defined}

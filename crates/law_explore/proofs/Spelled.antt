@@ -39,7 +39,7 @@ use Rattle.law_read.specs.declared.raw.RawTerm.TheFolds.{fold-roll-RawTerm}
 use Rattle.law_read.specs.declared.raw.RawLine.{RawLine}
 use Rattle.law_types.specs.Naming.{sort_name, symbol_name, raw_term, named_term, name_step}
 use Rattle.law_types.specs.Typed.{HasFewSorts}
-use Rattle.law_explore.proofs.NameFacts.{name_same, named_nodes, named_depth}
+use Rattle.law_types.proofs.Spelled.{name_same, named_nodes, named_depth}
 use Rattle.law_pool.proofs.GivenFacts.{have_count}
 use Rattle.law_gen.specs.Draws.{choices, chosen, Drawn, in_turn, value_drawn, values_drawn, sorts_of, pool_drawn, generator_of, pools_from, pools_by}
 use Rattle.law_gen.specs.Sizes.{AreSmall}

@@ -3,17 +3,13 @@ use Rattle.std.specs.Prelude.{◌≡◌, ℕ, ◌≤◌, List}
 use Rattle.law_sig.specs.Lists.{Each}
 use Rattle.law_sig.specs.Tests.{InU, Pools, assignments, Agrees, IsDefined, IsInBudget}
 use Rattle.law_sig.specs.Counts.{term_count}
-use Rattle.law_sig.specs.Laws.{IsLawList, IsCovered}
+use Rattle.law_sig.specs.Laws.{IsBackgroundTrue, IsLawList, IsCovered}
 use Rattle.law_sig.specs.declared.tree.SortId.{SortId}
 use Rattle.law_sig.specs.declared.tree.Tree.{Tree}
 use Rattle.law_sig.specs.declared.parts.Equation.{Equation}
 use Rattle.law_sig.specs.declared.parts.SigParts.{SigParts}
 use Rattle.law_gen.specs.Draws.{pools_by}
 use Rattle.law_explore.specs.Refusals.{Refusal, HasSmallValues, IsRefusal}
-
--- both sides of each background equation have a value at every test, and the same one
-abbrev pub IsBackgroundTrue : SigParts → Pools → Type 0
-IsBackgroundTrue parts pools = Each (λ (e : Equation). Agrees parts pools e.left e.right) parts.settings.background
 
 -- nothing refuses: the signature is within all limits, its background holds, and every application is within the budget
 pub record IsWithin (parts : SigParts) (terms : ℕ) : Type 0 where

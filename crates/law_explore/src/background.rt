@@ -2,7 +2,7 @@ ghost use Rattle.std.specs.Prelude.{◌≡◌, ◌+◌, ◌<◌, IfOk, IfErr, On
 ghost use Rattle.law_sig.specs.Tests.{Agrees};
 ghost use Rattle.law_value.specs.Values.{Grows};
 ghost use Rattle.law_gen.specs.Draws.{pools_by};
-ghost use Rattle.law_explore.specs.LawList.{IsBackgroundTrue};
+ghost use Rattle.law_sig.specs.Laws.{IsBackgroundTrue};
 ghost use Rattle.law_explore.specs.Refusals.{Breaks, IsFirstAnswer, HasBrokenBackground, IsTold};
 ghost use Rattle.law_explore.specs.Values.{ArePools, IsTestable, IsValue, IsLacking, HoldsAt, tests_by};
 

@@ -17,6 +17,10 @@ pub record IsLaw (parts : SigParts) (pools : Pools) (e : Equation) : Type 0 wher
   pub right : InU parts sort e.right
   pub agree : Agrees parts pools e.left e.right
 
+-- each background equation holds at every test
+abbrev pub IsBackgroundTrue : SigParts → Pools → Type 0
+IsBackgroundTrue parts pools = Each (λ (e : Equation). Agrees parts pools e.left e.right) parts.settings.background
+
 -- at some test both terms have a value, and not the same one
 pub record IsToldApart (parts : SigParts) (pools : Pools) (s t : Tree) : Type 0 where
   pub test : ℕ

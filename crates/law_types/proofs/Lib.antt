@@ -1,6 +1,6 @@
-mod NameTable
+pub mod NameTable
 mod NumberFacts
-mod TreeOfFacts
+pub mod TreeOfFacts
 mod HeightFacts
 pub mod StableFacts
 mod RowFacts

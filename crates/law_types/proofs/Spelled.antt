@@ -50,7 +50,7 @@ bytes_same : (ns : List ℕ) → list_all read_byte ns ≡ list_all is_name_byte
 bytes_same [] = refl
 bytes_same (n ∷ ns) = ap₂ ◌&&◌ (byte_same n) (bytes_same ns)
 
-name_same : (name : List ℕ) → is_name_in Kept name ≡ is_name name
+pub name_same : (name : List ℕ) → is_name_in Kept name ≡ is_name name
 name_same [] = refl
 name_same (n ∷ ns) = ap (λ z. (is_letter n && z) && nat_le (length (n ∷ ns)) 32) (bytes_same ns)
 
@@ -84,14 +84,14 @@ mapped : {A : Type 0} (f : A → ℕ) (g : RawTerm → ℕ) (n : A → RawTerm) 
 mapped f g n [] h = refl
 mapped f g n (x ∷ xs) h = ap₂ ◌∷◌ h.0 (mapped f g n xs h.1)
 
-named_nodes : (parts : SigParts) (t : Tree) → raw.node_count (named_term parts t) ≡ node_count t
+pub named_nodes : (parts : SigParts) (t : Tree) → raw.node_count (named_term parts t) ≡ node_count t
 named_nodes parts = tree_induct (λ t. raw.node_count (named_term parts t) ≡ node_count t)
     (λ s i. ap raw.node_count (fold-Var RawTerm (name_step parts) s i) ∙ raw_nodes (head.Var (sort_name parts s) i) [] ∙ sym (fold-Var ℕ nodes_step s i))
     (λ f args have. ap raw.node_count (fold-App RawTerm (name_step parts) f args) ∙ raw_nodes (head.Name (symbol_name parts f)) (map (named_term parts) args)
     ∙ ap (λ z. 1 + z) (sum_total (map raw.node_count (map (named_term parts) args)) ∙ ap total (mapped node_count raw.node_count (named_term parts) args have))
     ∙ sym (fold-App ℕ nodes_step f args))
 
-named_depth : (parts : SigParts) (t : Tree) → raw.depth (named_term parts t) ≡ depth t
+pub named_depth : (parts : SigParts) (t : Tree) → raw.depth (named_term parts t) ≡ depth t
 named_depth parts = tree_induct (λ t. raw.depth (named_term parts t) ≡ depth t)
     (λ s i. ap raw.depth (fold-Var RawTerm (name_step parts) s i) ∙ raw_depth (head.Var (sort_name parts s) i) [] ∙ sym (fold-Var ℕ depth_step s i))
     (λ f args have. ap raw.depth (fold-App RawTerm (name_step parts) f args) ∙ raw_depth (head.Name (symbol_name parts f)) (map (named_term parts) args)

@@ -6,7 +6,7 @@ use Rattle.law_sig.specs.Signature.{sort_of}
 use Rattle.law_sig.specs.WellFormed.{IsWellFormed}
 use Rattle.law_sig.specs.Tests.{InU, Pools, assignments, Agrees}
 use Rattle.law_sig.specs.Order.{IsBefore}
-use Rattle.law_sig.specs.Laws.{IsLaw}
+use Rattle.law_sig.specs.Laws.{IsLaw, IsBackgroundTrue}
 use Rattle.law_sig.specs.declared.tree.SortId.{SortId}
 use Rattle.law_sig.specs.declared.parts.Equation.{Equation}
 use Rattle.law_sig.specs.declared.parts.SigParts.{SigParts}
@@ -30,10 +30,6 @@ pub record IsWithinLimits (parts : SigParts) : Type 0 where
   pub well_formed : IsWellFormed parts
   pub few_assignments : assignments parts ≤ 4096
   pub small_values : Each (Each AreSmall) (pools_by parts)
-
--- each background equation holds at every test
-abbrev pub IsBackgroundTrue : SigParts → Pools → Type 0
-IsBackgroundTrue parts pools = Each (λ (q : Equation). Agrees parts pools q.left q.right) parts.settings.background
 
 -- Entries, each by those before it
 

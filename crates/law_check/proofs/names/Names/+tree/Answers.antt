@@ -2,7 +2,7 @@ use Rattle.std.proofs.Common.{◌≡◌, ◌∙◌, sym, ap, refl, length, map, 
 use Rattle.std.proofs.lemmas.Option.{slice_get_read}
 use Rattle.std.proofs.lemmas.List.{take_all}
 use Rattle.law_types.specs.TypedTerm.{tree_of}
-use Rattle.law_check.proofs.NameFacts.{stops, goes_on}
+use Rattle.law_types.proofs.TreeOfFacts.{stops, goes_on}
 use Rattle.law_check.proofs.names.Names.+tree.Goals as goal
 
 pub returns-in-None : goal.returns-in-None
