@@ -18,9 +18,9 @@ use Rattle.law_valid.specs.declared.rule.Answer.TheVariants.{Yes, No}
 use Rattle.law_valid.specs.declared.rule.Rule.TheVariants as r
 use Rattle.law_valid.specs.Stated.{stated, live_at, known}
 use Rattle.law_valid.specs.Judged.{AtTests, Block, IsBlockSpent, AreSchemasSpent, HasSides, entry_after}
-use Rattle.law_check.specs.Progress.{Progress, IsSchemaNext, AreSpent, IsTermNext, IsTermSpent}
+use Rattle.law_agenda.specs.Progress.{Progress, IsSchemaNext, AreSpent, IsTermNext, IsTermSpent}
 use Rattle.law_check.specs.Rules.{TellsLemma, TellsKilled, TellsMoved}
-use Rattle.law_check.specs.Agendas.{IsAt}
+use Rattle.law_agenda.specs.Agendas.{IsAt}
 use Rattle.law_check.specs.declared.entries.Seen.{Seen}
 use Rattle.law_check.specs.Steps.{IsYes, progress, HasSeen, HasPlace, IsAnswerTo, IsAnswerAtEnd}
 use Rattle.law_check.proofs.StepFacts.{universe_testable, next_testable}

@@ -1,5 +1,4 @@
 mod NameFacts
-pub mod RowFacts
 pub mod Replacing
 pub mod Binding
 pub mod Stepping
@@ -18,14 +17,6 @@ pub mod CertFacts
 pub mod Falling
 pub mod Meanings
 pub mod Descending
-pub mod Transfer
-pub mod Picking
-pub mod Staging
-pub mod Symbols
-pub mod Seeking
-pub mod Storing
-pub mod Items
-pub mod Instancing
 pub mod LineFacts
 pub mod Numbering
 pub mod Onces
@@ -34,6 +25,3 @@ pub mod Taking
 pub mod Telling
 pub mod Treeing
 pub mod Valuing
-pub mod AgendaFacts
-pub mod Spreading
-pub mod TakingTerms

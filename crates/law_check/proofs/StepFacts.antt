@@ -32,8 +32,8 @@ use Rattle.law_valid.specs.Expected.{IsAbove}
 use Rattle.law_valid.proofs.StatedFacts.{stated_parts, each_both, rising_both}
 use Rattle.law_valid.proofs.Blocks.{spread_schema}
 use Rattle.law_valid.proofs.Passing.{if_yes, never_no}
-use Rattle.law_check.specs.Progress.{Progress, at_start, after_spread, after_killed, after_term, IsSchemaNext, IsTermNext, IsTermSpent}
-use Rattle.law_check.specs.Agendas.{IsAt}
+use Rattle.law_agenda.specs.Progress.{Progress, at_start, after_spread, after_killed, after_term, IsSchemaNext, IsTermNext, IsTermSpent}
+use Rattle.law_agenda.specs.Agendas.{IsAt}
 use Rattle.law_check.specs.declared.entries.Seen.{Seen}
 use Rattle.law_check.specs.Steps.{IsYes, OfEntry, OfEnd, block_after, progress, HasSeen, SeesMore}
 

@@ -1,15 +1,5 @@
 pub mod Verdicts
 pub mod NameTables
-pub mod Rows
-pub mod Walking
-pub mod Choices
-pub mod Stages
-pub mod Shelves
-pub mod Candidates
-pub mod Stores
-pub mod Instances
-pub mod Progress
-pub mod Agendas
 pub mod Marks
 pub mod Counting
 pub mod Replaying

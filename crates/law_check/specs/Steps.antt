@@ -19,8 +19,8 @@ use Rattle.law_valid.specs.Stated.{stated, schema_at, spread_at, live_at, known}
 use Rattle.law_valid.specs.Valid.{IsNextNumber, IsLemma, IsKilled, IsMoved}
 use Rattle.law_valid.specs.Judged.{If, AtTests, Block, IsBlockSpent, IsNextTerm, IsNextSchema, AreSchemasSpent, HasSides, Entries, InTrees, with_term, entry_after}
 use Rattle.law_valid.specs.Named.{entry_named, entries_named, AreTreesOf}
-use Rattle.law_check.specs.Progress.{Progress}
-use Rattle.law_check.specs.Agendas.{IsAt}
+use Rattle.law_agenda.specs.Progress.{Progress}
+use Rattle.law_agenda.specs.Agendas.{IsAt}
 use Rattle.law_check.specs.declared.entries.Seen.{Seen}
 
 -- nothing is found wrong

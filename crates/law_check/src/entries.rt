@@ -7,12 +7,12 @@ ghost use Rattle.law_valid.specs.Named.{sort_named};
 ghost use Rattle.law_valid.specs.declared.certificate.Entry.TheVariants as e;
 ghost use Rattle.law_check.specs.Steps.{HasSeen, HasPlace, IsAnswerTo, IsAnswerAtEnd, SeesMore, AnswersAll};
 
-use crate::agenda::Agenda;
 use crate::forest::judge_trees;
 use crate::names::Names;
 use crate::rules::{is_killed, is_lemma, is_moved};
 use crate::terms::{Universe, schema};
 use crate::values::{agree, is_yes};
+use law_agenda::Agenda;
 use law_cert::{Entry as Written, SortTree};
 use law_sig::{Equation, NoMemory, Seq, Sig, SortId, Tree};
 use law_test::{TermTable, Tester};

@@ -1,0 +1,12 @@
+pub mod RowFacts
+pub mod Transfer
+pub mod Picking
+pub mod Staging
+pub mod Symbols
+pub mod Seeking
+pub mod Storing
+pub mod Items
+pub mod Instancing
+pub mod AgendaFacts
+pub mod Spreading
+pub mod TakingTerms

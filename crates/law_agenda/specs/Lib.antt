@@ -1,0 +1,10 @@
+pub mod Rows
+pub mod Walking
+pub mod Choices
+pub mod Stages
+pub mod Shelves
+pub mod Candidates
+pub mod Stores
+pub mod Instances
+pub mod Progress
+pub mod Agendas

@@ -1,0 +1,14 @@
+//! What a certificate has to state next: the next schema, and the next instance of a spread one, found from what is spread and
+//! live, without a list of all of them.
+#![tactic(auto)]
+
+mod agenda;
+mod candidates;
+mod closing;
+mod instances;
+mod rows;
+mod shelves;
+mod stores;
+mod walks;
+
+pub use agenda::Agenda;

@@ -1,5 +1,0 @@
-use Rattle.std.proofs.Common.{length}
-use Rattle.law_check.proofs.closing.+are_schemas.Given as goal
-
-abbrev pub decreases-are_schemas : goal.decreases-are_schemas
-decreases-are_schemas l = length l.sorts.now

@@ -1,5 +1,0 @@
-use Rattle.std.proofs.Common.{length}
-use Rattle.law_check.proofs.rows.+fits_of.Given as goal
-
-abbrev pub decreases-fits_of : goal.decreases-fits_of
-decreases-fits_of l = length l.choices.now

@@ -1,5 +1,0 @@
-use Rattle.std.proofs.Common.{length}
-use Rattle.law_check.proofs.rows.+next_row.Given as goal
-
-abbrev pub decreases-next_row : goal.decreases-next_row
-decreases-next_row l = length l.choices.now

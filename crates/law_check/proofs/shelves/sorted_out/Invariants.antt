@@ -1,6 +1,0 @@
-use Rattle.std.proofs.Common.{◌≡◌}
-use Rattle.law_check.specs.Shelves.{sorted_out}
-use Rattle.law_check.proofs.shelves.sorted_out.Given as goal
-
-abbrev pub invariant-loop-number : goal.invariant-loop-number
-invariant-loop-number l = l.found ≡ sorted_out l.sig l.level l.number
