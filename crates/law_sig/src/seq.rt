@@ -64,6 +64,10 @@ impl<T: Drop> Seq<T> {
         ensures ok { OnOk result (self.new ≡ self.old ++ item ∷ []) }
         ensures err { OnErr result (self.new ≡ self.old) }
     {
+        // most lists are the arguments of a term, one or two: these take no room that they don't use
+        if self.items.len() < 2 && self.items.reserve_exact(1).is_err() {
+            return Err(NoMemory);
+        }
         match self.items.push(item) {
             Ok(()) => Ok(()),
             Err(_) => Err(NoMemory),
