@@ -1,14 +1,13 @@
 -- What an agenda knows, and what it knows after a step.
-use Rattle.std.proofs.Common.{◌≡◌, ℕ, zero, suc, ◌<◌, ◌≤◌, ◌⊎◌, ◌↔◌, inl, inr, List, [], ◌∷◌, ◌++◌, length, Option, Some, None, IsTrue, refl, sym, ap, ◌∙◌, subst, arith}
+use Rattle.std.proofs.Common.{◌≡◌, ℕ, zero, suc, ◌<◌, ◌≤◌, ◌⊎◌, ◌↔◌, inl, inr, List, [], ◌∷◌, Option, Some, None, refl, sym, ◌∙◌, subst, arith}
 use Rattle.std.specs.Option.{MatchOption}
-use Rattle.law_sig.specs.Lists.{In, Each}
 use Rattle.law_sig.specs.Tests.{weight}
 use Rattle.law_sig.specs.Order.{IsBefore}
 use Rattle.law_sig.specs.declared.tree.Tree.{Tree}
 use Rattle.law_sig.specs.declared.parts.SigParts.{SigParts}
 use Rattle.law_laws.proofs.ListFacts.{in_none, in_left}
 use Rattle.law_laws.proofs.Orders.{never_before_itself, before_chain}
-use Rattle.law_valid.specs.Expected.{IsAbove, IsFirstAbove, IsSpent}
+use Rattle.law_valid.specs.Expected.{IsFirstAbove, IsSpent}
 use Rattle.law_valid.specs.Schemas.{IsConsidered}
 use Rattle.law_valid.specs.Judged.{Block, IsBlockSpent, IsNextTerm}
 use Rattle.law_agenda.specs.declared.agenda.Agenda.{Agenda}
@@ -17,10 +16,10 @@ use Rattle.law_agenda.specs.declared.candidates.Candidate.{Candidate}
 use Rattle.law_agenda.specs.declared.candidates.Candidate.TheVariants as candidate
 use Rattle.law_agenda.specs.declared.shelves.Spread.{Spread}
 use Rattle.law_agenda.specs.declared.stores.Store.{Store}
-use Rattle.law_agenda.specs.Candidates.{IsCandidate, FirstOf, NextOf}
+use Rattle.law_agenda.specs.Candidates.{IsCandidate}
 use Rattle.law_agenda.specs.Progress.{Progress, at_start, after_killed, IsSchemaNext, AreSpent, IsTermNext, IsTermSpent}
 use Rattle.law_agenda.specs.Stores.{IsStore, IsItem, IsFitting}
-use Rattle.law_agenda.specs.Agendas.{IsReady, IsGoing, IsStage, AreKept, AreRanged}
+use Rattle.law_agenda.specs.Agendas.{IsReady, IsStage}
 use Rattle.law_agenda.proofs.Staging.{first_after, spent_after}
 use Rattle.std.proofs.Math.Nat.{eq-or-lt_of_le}
 use Rattle.law_sig.specs.WellFormed.{IsWellFormed}

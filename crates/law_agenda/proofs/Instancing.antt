@@ -1,19 +1,18 @@
 -- Rows of picks from ranges of live terms stand for the instances of a schema.
-use Rattle.std.proofs.Common.{◌≡◌, ℕ, zero, suc, ◌+◌, ◌-◌, ◌<◌, ◌≤◌, ◌⊎◌, inl, inr, ◌&&◌, true, List, [], ◌∷◌, ◌++◌, length, map, take, drop, Option, Some, None, IsTrue, slice_index_or, nat_lt, ltb-true, lt-ltb, refl, sym, ap, ap₂, ◌∙◌, subst, subst₂, arith}
-use Rattle.std.specs.List.{list_all}
+use Rattle.std.proofs.Common.{◌≡◌, ℕ, zero, suc, ◌+◌, ◌-◌, ◌<◌, ◌≤◌, ◌⊎◌, inl, inr, ◌&&◌, true, List, [], ◌∷◌, length, map, take, drop, Some, IsTrue, slice_index_or, refl, sym, ap, ap₂, ◌∙◌, subst, subst₂, arith}
 use Rattle.law_sig.specs.Lists.{In, Each, Rising}
 use Rattle.law_sig.specs.Lists.In.{here, there}
 use Rattle.law_sig.specs.Trees.{schema_of}
 use Rattle.law_sig.specs.Signature.{vars_at, sort_of, is_declared_sort}
-use Rattle.law_sig.specs.Tests.{weight, is_explored, is_bounded, InU}
-use Rattle.law_sig.specs.Order.{IsBefore, num, pair, ranked, rank}
+use Rattle.law_sig.specs.Tests.{weight, is_bounded, InU}
+use Rattle.law_sig.specs.Order.{IsBefore, rank}
 use Rattle.law_sig.specs.declared.tree.SortId.{SortId}
 use Rattle.law_sig.specs.declared.tree.SymId.{SymId}
 use Rattle.law_sig.specs.declared.tree.Tree.{Tree}
 use Rattle.law_sig.specs.declared.tree.Tree.TheVariants.{Var, App, outs-Var, outs-App}
 use Rattle.law_sig.specs.declared.tree.Tree.TheViews.{out-Tree}
 use Rattle.law_sig.specs.declared.parts.SigParts.{SigParts}
-use Rattle.law_laws.proofs.TreeFacts.{tree_cases, weight-Var, schema-Var, schema-App, bounded-Var, bounded-App, rank-Var, same_var, same_app, var_no_app}
+use Rattle.law_laws.proofs.TreeFacts.{tree_cases, schema-Var, schema-App, bounded-App, rank-Var, same_var, same_app, var_no_app}
 use Rattle.law_laws.proofs.ListFacts.{in_none, of_each}
 use Rattle.law_laws.proofs.Orders.{never_before_itself, before_chain, schema_weight}
 use Rattle.law_laws.proofs.Ranks.{Below}
@@ -25,10 +24,9 @@ use Rattle.law_valid.specs.Schemas.{IsInstance, arguments_of}
 use Rattle.law_agenda.specs.declared.instances.Range.{Range}
 use Rattle.law_agenda.specs.declared.rows.Pick.{Pick}
 use Rattle.law_agenda.specs.Rows.{Lex, IsLower, IsRow}
-use Rattle.law_agenda.specs.Choices.{Lists, counts_of, IsChosen, Picked}
+use Rattle.law_agenda.specs.Choices.{counts_of, IsChosen}
 use Rattle.law_agenda.specs.Candidates.{IsTermOf}
-use Rattle.law_agenda.specs.Instances.{piece, pieces, range_counts, IsRange, AreRanges, IsOpen, IsOpenVar, IsInstanceOf, IsHeld, FirstInstance, NextInstance}
-use Rattle.law_agenda.specs.declared.instances.Instance.{Instance}
+use Rattle.law_agenda.specs.Instances.{piece, pieces, range_counts, AreRanges, IsOpen, IsOpenVar, IsInstanceOf, FirstInstance, NextInstance}
 use Rattle.law_agenda.specs.declared.instances.Instance.TheVariants as instance
 use Rattle.law_agenda.specs.declared.walks.Walk.{Walk}
 use Rattle.law_agenda.specs.Walking.{IsWalk}

@@ -28,7 +28,7 @@ use Rattle.law_laws.proofs.Sorts.{var_sorted}
 use Rattle.law_agenda.proofs.Seeking.{here_of}
 use Rattle.law_agenda.proofs.Symbols.{considered_schema}
 use Rattle.law_agenda.proofs.RowFacts.{at_kept, at_end}
-use Rattle.law_agenda.proofs.Storing.{past_end, longer, rows_long, row_at, row_past}
+use Rattle.law_agenda.proofs.Storing.{past_end, longer, row_at, row_past}
 
 kept_in : (f : Spread → Bool) (xs : List Spread) (e : Spread) → In e (filter f xs) → In e xs
 kept_in f [] e at = at

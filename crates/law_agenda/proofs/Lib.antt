@@ -10,3 +10,4 @@ pub mod Instancing
 pub mod AgendaFacts
 pub mod Spreading
 pub mod TakingTerms
+pub mod Bounds

@@ -1,9 +1,9 @@
 -- Rows of picks stand for the arguments that they pick, in order.
-use Rattle.std.proofs.Common.{◌≡◌, ℕ, zero, suc, ◌+◌, ◌-◌, ◌<◌, ◌≤◌, ◌⊎◌, inl, inr, List, [], ◌∷◌, ◌++◌, length, map, Option, Some, None, slice_get, slice_index_or, refl, sym, ap, ap₂, ◌∙◌, subst, arith}
+use Rattle.std.proofs.Common.{◌≡◌, ℕ, zero, suc, ◌-◌, ◌<◌, ◌⊎◌, inl, inr, List, [], ◌∷◌, length, map, Some, None, slice_get, slice_index_or, refl, sym, ap, ap₂, ◌∙◌, subst, arith}
 use Rattle.law_sig.specs.Lists.{In, Each, Rising}
 use Rattle.law_sig.specs.Lists.In.{here, there}
 use Rattle.law_sig.specs.declared.tree.Tree.{Tree}
-use Rattle.law_laws.proofs.ListFacts.{in_none, of_each}
+use Rattle.law_laws.proofs.ListFacts.{of_each}
 use Rattle.law_laws.proofs.BodyFacts.{some_is, none_is}
 use Rattle.law_agenda.specs.declared.rows.Pick.{Pick}
 use Rattle.law_agenda.specs.Rows.{Lex, IsLower, IsRow}

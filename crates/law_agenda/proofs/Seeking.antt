@@ -1,13 +1,11 @@
 -- The first and the next candidate of a symbol, and from a symbol on.
-use Rattle.std.proofs.Common.{◌≡◌, ℕ, zero, suc, ◌+◌, ◌-◌, ◌<◌, ◌≤◌, ◌⊎◌, inl, inr, Bool, true, false, true≢false, List, [], ◌∷◌, length, map, Option, Some, None, IsTrue, option_map, slice_get, refl, sym, ap, ◌∙◌, subst, subst₂, arith}
-use Rattle.law_sig.specs.Lists.{In, Each, total}
+use Rattle.std.proofs.Common.{◌≡◌, ℕ, suc, ◌-◌, ◌<◌, ◌≤◌, ◌⊎◌, inl, inr, true, false, true≢false, List, [], ◌∷◌, length, Option, Some, None, IsTrue, option_map, refl, sym, ap, ◌∙◌, subst, subst₂, arith}
 use Rattle.law_sig.specs.Signature.{symbol_at, args_of, weight_at}
 use Rattle.law_sig.specs.Tests.{weight, is_explored}
-use Rattle.law_sig.specs.Trees.{same_symbol}
 use Rattle.law_sig.specs.Order.{IsBefore}
 use Rattle.law_sig.specs.declared.tree.SymId.{SymId}
 use Rattle.law_sig.specs.declared.tree.Tree.{Tree}
-use Rattle.law_sig.specs.declared.tree.Tree.TheVariants.{Var, App, outs-Var, outs-App}
+use Rattle.law_sig.specs.declared.tree.Tree.TheVariants.{App, outs-Var, outs-App}
 use Rattle.law_sig.specs.declared.parts.Sym.{Sym}
 use Rattle.law_sig.specs.declared.parts.SigParts.{SigParts}
 use Rattle.law_laws.proofs.TreeFacts.{weight-App}
@@ -29,7 +27,7 @@ use Rattle.law_agenda.specs.Choices.{counts_of}
 use Rattle.law_agenda.specs.Shelves.{Shelf, lists_at, lists_for, sorts_of}
 use Rattle.law_agenda.specs.Stages.{kind_in, number_in, AtStage, FromStage, Here, Onward}
 use Rattle.law_agenda.specs.Walking.{IsWalk}
-use Rattle.law_agenda.specs.Candidates.{IsTermOf, IsApplication, IsCandidate, IsStock, FirstOf, NextOf, FirstFrom}
+use Rattle.law_agenda.specs.Candidates.{IsTermOf, IsApplication, IsStock, FirstOf, NextOf, FirstFrom}
 use Rattle.law_agenda.proofs.Transfer.{StandFor, spent_first, spent_next, first_first, next_next}
 use Rattle.law_agenda.proofs.Picking.{row_picks, at_place}
 use Rattle.law_agenda.proofs.Staging.{stage_split, stage_found, first_same}

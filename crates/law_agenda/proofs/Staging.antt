@@ -1,14 +1,12 @@
 -- The order of exploring goes through schemas stage by stage.
-use Rattle.std.proofs.Common.{◌≡◌, ℕ, suc, ◌+◌, ◌<◌, ◌≤◌, ◌⊎◌, inl, inr, List, [], ◌∷◌, ◌++◌, map, refl, sym, ap, ◌∙◌, subst, subst₂, arith}
+use Rattle.std.proofs.Common.{◌≡◌, ℕ, suc, ◌+◌, ◌<◌, ◌⊎◌, inl, inr, List, [], ◌∷◌, ◌++◌, map, refl, sym, ap, ◌∙◌, subst, subst₂, arith}
 use Rattle.std.proofs.Math.Nat.{eq-or-lt_of_le}
-use Rattle.law_sig.specs.Lists.{In, Each}
 use Rattle.law_sig.specs.Trees.{schema_of}
 use Rattle.law_sig.specs.Tests.{weight}
-use Rattle.law_sig.specs.Order.{Rank, num, pair, row, ranked, rank, explore_rank, IsBefore}
+use Rattle.law_sig.specs.Order.{Rank, num, row, ranked, rank, explore_rank, IsBefore}
 use Rattle.law_sig.specs.declared.tree.SymId.{SymId}
 use Rattle.law_sig.specs.declared.tree.Tree.{Tree}
 use Rattle.law_sig.specs.declared.tree.Tree.TheVariants.{Var, App, outs-Var, outs-App}
-use Rattle.law_sig.specs.declared.tree.Tree.TheViews.{out-Tree}
 use Rattle.law_sig.specs.declared.parts.SigParts.{SigParts}
 use Rattle.law_laws.proofs.TreeFacts.{tree_cases, weight-Var, rank-Var, rank-App}
 use Rattle.law_laws.proofs.ListFacts.{each_map}

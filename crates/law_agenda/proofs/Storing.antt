@@ -1,16 +1,14 @@
 -- Going on to the next weight, and the first and next schema over all weights.
-use Rattle.std.proofs.Common.{◌≡◌, ℕ, zero, suc, ◌+◌, ◌-◌, ◌<◌, ◌≤◌, ◌⊎◌, inl, inr, Bool, true, false, true≢false, cond, List, [], ◌∷◌, ◌++◌, length, map, Option, Some, None, IsTrue, IfOk, Ok, Err, Result, nat_lt, ltb-true, lt-ltb, min, ◌^◌, eqb-true, eq-eqb, if◌then◌else◌, slice_index_or, refl, sym, ap, ◌∙◌, subst, subst₂, arith}
+use Rattle.std.proofs.Common.{◌≡◌, ℕ, zero, suc, ◌+◌, ◌-◌, ◌<◌, ◌≤◌, ◌⊎◌, inl, inr, Bool, true, false, true≢false, cond, List, [], ◌∷◌, ◌++◌, length, Option, Some, None, IsTrue, IfOk, Ok, Err, Result, ltb-true, lt-ltb, min, ◌^◌, slice_index_or, refl, sym, ap, ◌∙◌, subst, arith}
 use Rattle.std.proofs.Math.Nat.{eq-or-lt_of_le}
 use Rattle.std.specs.List.{filter}
-use Rattle.std.specs.Option.{MatchOption}
 use Rattle.law_sig.specs.Lists.{In, Each, Rising}
 use Rattle.law_sig.specs.Lists.In.{here, there}
 use Rattle.law_sig.specs.Trees.{same_sort, schema_of}
-use Rattle.law_sig.specs.Signature.{is_declared_sort, symbol_at, result_of, vars_at, weight_at, sort_of}
+use Rattle.law_sig.specs.Signature.{is_declared_sort, vars_at, sort_of}
 use Rattle.law_sig.specs.Tests.{weight}
 use Rattle.law_sig.specs.Order.{IsBefore}
 use Rattle.law_sig.specs.declared.tree.SortId.{SortId}
-use Rattle.law_sig.specs.declared.tree.SymId.{SymId}
 use Rattle.law_sig.specs.declared.tree.Tree.{Tree}
 use Rattle.law_sig.specs.declared.tree.Tree.TheVariants.{Var, App, outs-Var, outs-App}
 use Rattle.law_sig.specs.declared.tree.Tree.TheViews.{out-Tree}
@@ -18,7 +16,6 @@ use Rattle.law_sig.specs.declared.parts.SigParts.{SigParts}
 use Rattle.law_laws.proofs.TreeFacts.{tree_cases, weight-Var, schema-Var, same_var, var_no_app}
 use Rattle.law_laws.proofs.Orders.{never_before_itself}
 use Rattle.law_laws.proofs.ListFacts.{in_none, in_rest, of_each}
-use Rattle.law_laws.proofs.BodyFacts.{some_is, none_is}
 use Rattle.law_laws.proofs.Sorts.{sorted_var, sorted_app, same_sort_is, same_sort_itself}
 use Rattle.law_valid.specs.Expected.{IsFirstAbove, IsSpent}
 use Rattle.law_valid.specs.Schemas.{IsConsidered}
@@ -27,12 +24,12 @@ use Rattle.law_agenda.specs.declared.shelves.Spread.{Spread}
 use Rattle.law_agenda.specs.declared.stores.Store.{Store}
 use Rattle.law_agenda.specs.declared.candidates.Candidate.{Candidate}
 use Rattle.law_agenda.specs.declared.candidates.Candidate.TheVariants as candidate
-use Rattle.law_agenda.specs.Shelves.{Shelf, bucket, schemas_in, gives_sort, heads_sort, is_of_sort, sorted_out, IsShelf}
+use Rattle.law_agenda.specs.Shelves.{Shelf, bucket, schemas_in, gives_sort, heads_sort, is_of_sort, sorted_out}
 use Rattle.law_agenda.specs.Stages.{kind, number, kind_in, number_in, AtStage, FromStage, Here, Onward}
-use Rattle.law_agenda.specs.Candidates.{IsStock, IsCandidate, IsApplication, FirstOf, NextOf, FirstFrom}
-use Rattle.law_agenda.specs.Stores.{IsLevel, IsStore, IsFirstVar, FirstVar}
+use Rattle.law_agenda.specs.Candidates.{FirstOf, NextOf, FirstFrom}
+use Rattle.law_agenda.specs.Stores.{IsStore, IsFirstVar}
 use Rattle.law_agenda.proofs.RowFacts.{at_kept, at_end}
-use Rattle.law_agenda.proofs.Staging.{stage_found, stage_split, stage_below, schemas_before, first_same, spent_same, next_here, next_later, next_never}
+use Rattle.law_agenda.proofs.Staging.{stage_split, stage_below, schemas_before, first_same, spent_same, next_here, next_later, next_never}
 use Rattle.law_agenda.proofs.Symbols.{considered_schema}
 
 -- Lists

@@ -1,5 +1,5 @@
 -- Rows of picks from a shelf stand for the considered applications of a symbol of one weight.
-use Rattle.std.proofs.Common.{◌≡◌, ℕ, zero, suc, ◌+◌, ◌-◌, ◌<◌, ◌≤◌, ◌⊎◌, inl, inr, List, [], ◌∷◌, length, map, Option, Some, None, IsTrue, slice_index_or, refl, sym, ap, ap₂, ◌∙◌, subst, subst₂, arith}
+use Rattle.std.proofs.Common.{◌≡◌, ℕ, zero, suc, ◌-◌, ◌<◌, ◌≤◌, List, [], ◌∷◌, length, map, Some, IsTrue, slice_index_or, refl, sym, ap, ap₂, ◌∙◌, subst, subst₂, arith}
 use Rattle.law_sig.specs.Lists.{In, Each, Rising, total}
 use Rattle.law_sig.specs.Lists.In.{here, there}
 use Rattle.law_sig.specs.Trees.{schema_of}
@@ -9,25 +9,24 @@ use Rattle.law_sig.specs.Order.{IsBefore}
 use Rattle.law_sig.specs.declared.tree.SortId.{SortId}
 use Rattle.law_sig.specs.declared.tree.SymId.{SymId}
 use Rattle.law_sig.specs.declared.tree.Tree.{Tree}
-use Rattle.law_sig.specs.declared.tree.Tree.TheVariants.{Var, App, outs-Var, outs-App}
+use Rattle.law_sig.specs.declared.tree.Tree.TheVariants.{App, outs-Var, outs-App}
 use Rattle.law_sig.specs.declared.parts.Sym.{Sym}
 use Rattle.law_sig.specs.declared.parts.SigParts.{SigParts}
 use Rattle.law_laws.proofs.TreeFacts.{weight-App, schema-Var, schema-App}
-use Rattle.law_laws.proofs.ListFacts.{of_each, each_map}
-use Rattle.law_laws.proofs.Sorts.{HaveSorts, IsApplication, sorted_app, app_sorted}
+use Rattle.law_laws.proofs.ListFacts.{of_each}
+use Rattle.law_laws.proofs.Sorts.{HaveSorts, sorted_app, app_sorted}
 use Rattle.law_laws.proofs.BodyFacts.{some_is}
 use Rattle.law_laws.proofs.Orders.{never_before_itself, before_chain, lighter}
 use Rattle.law_valid.specs.Schemas.{IsConsidered}
 use Rattle.law_valid.specs.Schemas.IsConsidered.{variable, application}
 use Rattle.law_agenda.specs.declared.rows.Pick.{Pick}
-use Rattle.law_agenda.specs.declared.shelves.Spread.{Spread}
 use Rattle.law_agenda.specs.Rows.{Lex, IsLower, IsRow}
-use Rattle.law_agenda.specs.Choices.{Lists, counts_of, IsChosen, Picked}
+use Rattle.law_agenda.specs.Choices.{counts_of, IsChosen, Picked}
 use Rattle.law_agenda.specs.Shelves.{Shelf, bucket, schemas_in, column, lists_for, sorts_of, lists_at, IsShelf, AreSchemas}
 use Rattle.law_agenda.specs.Candidates.{IsTermOf}
-use Rattle.law_agenda.specs.Stages.{kind, number, kind_in, number_in, AtStage, Here}
+use Rattle.law_agenda.specs.Stages.{kind_in, number_in, AtStage, Here}
 use Rattle.law_agenda.proofs.Transfer.{StandFor}
-use Rattle.law_agenda.proofs.Picking.{IsSorted, row_picks, picked_chosen, chosen_picked, picked_one, picked_rises, rows_compared}
+use Rattle.law_agenda.proofs.Picking.{IsSorted, picked_chosen, chosen_picked, picked_one, picked_rises, rows_compared}
 use Rattle.law_agenda.proofs.Staging.{IsBelow, apps_below, schemas_before, before_schemas}
 
 same_symbol_id : (f g : SymId) → f.0 ≡ g.0 → f ≡ g

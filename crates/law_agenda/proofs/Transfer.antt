@@ -1,5 +1,5 @@
 -- What comes first and next of some things, told by what comes first and next of others that stand for them.
-use Rattle.std.proofs.Common.{◌≡◌, ◌⊎◌, inl, inr, List, [], ◌∷◌, sym, subst}
+use Rattle.std.proofs.Common.{◌≡◌, ◌⊎◌, inl, inr, [], ◌∷◌, subst}
 use Rattle.law_valid.specs.Expected.{IsFirstAbove, IsSpent}
 
 -- things of one kind stand for those of another, in order

@@ -1,5 +1,5 @@
 -- What an agenda knows.
-use Rattle.std.specs.Prelude.{◌≡◌, ℕ, ◌<◌, ◌++◌, ◌∷◌, [], List, length, true, Option, Some, None}
+use Rattle.std.specs.Prelude.{◌≡◌, ◌++◌, ◌∷◌, [], List, length, true, Option, Some, None}
 use Rattle.std.specs.Option.{MatchOption}
 use Rattle.law_sig.specs.Lists.{In, Each, Rising}
 use Rattle.law_sig.specs.Trees.{schema_of}
@@ -8,15 +8,13 @@ use Rattle.law_sig.specs.Order.{IsBefore}
 use Rattle.law_sig.specs.declared.tree.Tree.{Tree}
 use Rattle.law_sig.specs.declared.parts.SigParts.{SigParts}
 use Rattle.law_valid.specs.Expected.{IsAbove}
-use Rattle.law_valid.specs.Schemas.{IsConsidered}
-use Rattle.law_valid.specs.Judged.{Block}
 use Rattle.law_agenda.specs.declared.agenda.Agenda.{Agenda}
 use Rattle.law_agenda.specs.declared.agenda.Going.{Going}
 use Rattle.law_agenda.specs.declared.candidates.Candidate.{Candidate}
 use Rattle.law_agenda.specs.declared.shelves.Spread.{Spread}
 use Rattle.law_agenda.specs.declared.stores.Store.{Store}
 use Rattle.law_agenda.specs.Candidates.{IsCandidate}
-use Rattle.law_agenda.specs.Instances.{IsRange, IsOpened, IsInstanceOf, IsHeld}
+use Rattle.law_agenda.specs.Instances.{IsRange, IsInstanceOf, IsHeld}
 use Rattle.law_agenda.specs.Progress.{Progress, IsSchemaNext, AreSpent, IsTermNext, IsTermSpent}
 use Rattle.law_agenda.specs.Stores.{IsStore, IsItem, IsFitting, IsClosed}
 

@@ -1,7 +1,6 @@
 -- Schemas that may be the next one, and where the way through them has come.
 use Rattle.std.specs.Prelude.{◌≡◌, ℕ, ◌-◌, ◌<◌, ◌≤◌, List, [], ◌∷◌, length, Option, IsTrue}
 use Rattle.std.specs.Option.{MatchOption}
-use Rattle.law_sig.specs.Lists.{In, Rising}
 use Rattle.law_sig.specs.Signature.{weight_at}
 use Rattle.law_sig.specs.Tests.{weight, is_explored}
 use Rattle.law_sig.specs.Order.{IsBefore}
@@ -13,13 +12,12 @@ use Rattle.law_sig.specs.declared.parts.SigParts.{SigParts}
 use Rattle.law_valid.specs.Expected.{IsFirstAbove, IsSpent}
 use Rattle.law_valid.specs.Schemas.{IsConsidered}
 use Rattle.law_agenda.specs.declared.rows.Pick.{Pick}
-use Rattle.law_agenda.specs.declared.shelves.Spread.{Spread}
 use Rattle.law_agenda.specs.declared.candidates.Candidate.{Candidate}
 use Rattle.law_agenda.specs.declared.candidates.Candidate.TheVariants as candidate
 use Rattle.law_agenda.specs.declared.walks.Walk.{Walk}
 use Rattle.law_agenda.specs.Choices.{Lists, counts_of, Picked}
-use Rattle.law_agenda.specs.Shelves.{Shelf, lists_at, schemas_in, IsShelf, AreSchemas}
-use Rattle.law_agenda.specs.Stages.{Here, Onward, FromStage}
+use Rattle.law_agenda.specs.Shelves.{Shelf, lists_at, IsShelf, AreSchemas}
+use Rattle.law_agenda.specs.Stages.{Onward, FromStage}
 use Rattle.law_agenda.specs.Walking.{IsWalk}
 
 -- an application of a symbol to what a row picks

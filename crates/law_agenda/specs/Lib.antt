@@ -8,3 +8,4 @@ pub mod Stores
 pub mod Instances
 pub mod Progress
 pub mod Agendas
+pub mod Marks

@@ -8,6 +8,7 @@ use super::closing::{close, empty_store, is_candidate};
 use super::instances::{Instance, first_instance, next_instance};
 use super::shelves::Spread;
 use super::stores::{Store, first_schema, next_schema};
+use super::universe::Universe;
 use law_sig::{NoMemory, Sig, Tree};
 use std::alloc::Global;
 
@@ -42,10 +43,10 @@ fn more_lives(count: usize, live: bool) -> Result<usize, NoMemory>
 
 impl Agenda {
     /// Before the first entry.
-    pub fn new(alloc: Global, sig: &Sig) -> Result<Agenda, NoMemory>
-        ensures { IfOk result (λ agenda. IsAt agenda (at_start sig.now)) }
+    pub fn new(alloc: Global, universe: &Universe) -> Result<Agenda, NoMemory>
+        ensures { IfOk result (λ agenda. IsAt agenda (at_start universe.now)) }
     {
-        let found = first_schema(alloc, sig, empty_store(alloc, sig)?, 0)?;
+        let found = first_schema(alloc, universe, empty_store(alloc, universe.sig())?, 0)?;
         Ok(Agenda {
             store: found.store,
             schema: found.next,
@@ -95,8 +96,8 @@ impl Agenda {
     }
 
     /// The next schema, which is this one, is killed.
-    pub fn kill(self, alloc: Global, sig: &Sig) -> Result<Agenda, NoMemory>
-        ensures { IfOk result (λ agenda. (p : Progress) (c : Tree) → IsAt self p → sig.now ≡ p.parts → IsTermSpent p → IsSchemaNext p c → IsAt agenda (after_killed p c)) }
+    pub fn kill(self, alloc: Global, universe: &Universe) -> Result<Agenda, NoMemory>
+        ensures { IfOk result (λ agenda. (p : Progress) (c : Tree) → IsAt self p → universe.now ≡ p.parts → IsTermSpent p → IsSchemaNext p c → IsAt agenda (after_killed p c)) }
     {
         let Agenda {
             store,
@@ -106,7 +107,7 @@ impl Agenda {
         } = self;
         match schema {
             Some(last) => {
-                let found = next_schema(alloc, sig, store, last)?;
+                let found = next_schema(alloc, universe, store, last)?;
                 Ok(Agenda {
                     store: found.store,
                     schema: found.next,
@@ -124,8 +125,13 @@ impl Agenda {
     }
 
     /// The next schema, which is this one, is spread.
-    pub fn spread(self, alloc: Global, sig: &Sig, schema: &Tree) -> Result<Agenda, NoMemory>
-        ensures { IfOk result (λ agenda. (p : Progress) → IsAt self p → sig.now ≡ p.parts → IsTermSpent p → IsSchemaNext p schema.now → IsAt agenda (after_spread p schema.now)) }
+    pub fn spread(
+        self,
+        alloc: Global,
+        universe: &Universe,
+        schema: &Tree,
+    ) -> Result<Agenda, NoMemory>
+        ensures { IfOk result (λ agenda. (p : Progress) → IsAt self p → universe.now ≡ p.parts → IsTermSpent p → IsSchemaNext p schema.now → IsAt agenda (after_spread p schema.now)) }
     {
         let Agenda {
             store,
@@ -146,7 +152,7 @@ impl Agenda {
             from: lives,
             to: lives,
         };
-        match first_instance(alloc, sig, store.shelf.as_slice(), &last)? {
+        match first_instance(alloc, universe.sig(), store.shelf.as_slice(), &last)? {
             Some(instance) => Ok(Agenda {
                 store,
                 schema: Some(last),
@@ -154,7 +160,7 @@ impl Agenda {
                 lives,
             }),
             None => {
-                let found = close(alloc, sig, store, last, spread)?;
+                let found = close(alloc, universe, store, last, spread)?;
                 Ok(Agenda {
                     store: found.store,
                     schema: found.next,
@@ -166,8 +172,13 @@ impl Agenda {
     }
 
     /// The next instance is a live term, or a moved one.
-    pub fn take_term(self, alloc: Global, sig: &Sig, live: bool) -> Result<Agenda, NoMemory>
-        ensures { IfOk result (λ agenda. (p : Progress) (t : Tree) → IsAt self p → sig.now ≡ p.parts → IsTermNext p t → IsAt agenda (after_term p t live)) }
+    pub fn take_term(
+        self,
+        alloc: Global,
+        universe: &Universe,
+        live: bool,
+    ) -> Result<Agenda, NoMemory>
+        ensures { IfOk result (λ agenda. (p : Progress) (t : Tree) → IsAt self p → universe.now ≡ p.parts → IsTermNext p t → IsAt agenda (after_term p t live)) }
     {
         let Agenda {
             store,
@@ -206,7 +217,7 @@ impl Agenda {
                     from: spread.from,
                     to: lives,
                 };
-                let found = close(alloc, sig, store, last, closed)?;
+                let found = close(alloc, universe, store, last, closed)?;
                 Ok(Agenda {
                     store: found.store,
                     schema: found.next,

@@ -1,16 +1,16 @@
-ghost use Rattle.std.specs.Prelude.{◌≡◌, ◌<◌, ◌≤◌, ◌^◌, List, ℕ, length, IfOk, slice_index_or};
+ghost use Rattle.std.specs.Prelude.{◌≡◌, ◌<◌, List, ℕ, length, IfOk};
 ghost use Rattle.law_sig.specs.Signature.{vars_at, weight_at};
 ghost use Rattle.law_sig.specs.Tests.{is_explored};
 ghost use Rattle.law_sig.specs.declared.tree.Tree.{Tree};
 ghost use Rattle.law_valid.specs.Schemas.{IsConsidered};
 ghost use Rattle.law_agenda.specs.declared.candidates.Candidate.TheVariants as candidate;
-ghost use Rattle.law_agenda.specs.Candidates.{IsCandidate, IsApplication, IsStock, FirstOf, NextOf, FirstFrom};
+ghost use Rattle.law_agenda.specs.Candidates.{IsApplication, IsStock, FirstOf, NextOf, FirstFrom};
 ghost use Rattle.law_agenda.specs.Stages.{Here};
 ghost use Rattle.law_sig.specs.declared.parts.SigParts.{SigParts};
 ghost use Rattle.law_agenda.specs.Shelves.{Shelf};
-ghost use Rattle.law_agenda.specs.Walking.{IsWalk};
 
 use super::shelves::{Spread, choices};
+use super::universe::Universe;
 use super::walks::Walk;
 use law_sig::{NoMemory, Seq, Sig, SortId, SymId};
 use std::alloc::Global;
@@ -20,17 +20,6 @@ use std::alloc::Global;
 pub enum Candidate {
     Var(SortId),
     App(SymId, Walk),
-}
-
-/// What a symbol weighs, at least 1.
-fn weight_at(sig: &Sig, sym: SymId) -> u32
-    ensures weight { result ≡ weight_at sig.now sym }
-    ensures positive { 1 ≤ result }
-{
-    match sig.settings().weights.get(sym.0 as usize) {
-        Some(weight) => *weight,
-        None => 1,
-    }
 }
 
 /// How many variables a sort has.
@@ -43,38 +32,26 @@ pub fn vars_at(sig: &Sig, sort: SortId) -> u32
     }
 }
 
-/// Whether terms are to be built from a symbol.
-fn is_explored(sig: &Sig, sym: SymId) -> bool
-    ensures { result ≡ is_explored sig.now sym }
-{
-    for explored in sig.settings().explored.as_slice() {
-        if sym.0 == explored.0 {
-            return true;
-        }
-    }
-    false
-}
-
 /// The first candidate of a symbol.
 fn first_of_symbol(
     alloc: Global,
-    sig: &Sig,
+    universe: &Universe,
     shelf: &[Seq<Seq<Spread>>],
     weight: u32,
     sym: SymId,
 ) -> Result<Option<Candidate>, NoMemory>
-    requires { sym.0 < length sig.now.symbols }
-    ensures { IfOk result (λ r. (spreads : List Tree) → IsStock sig.now spreads shelf.now weight
-        → FirstOf sig.now shelf.now weight (Here sig.now (IsConsidered sig.now spreads) weight 1 sym.0) r) }
+    requires { sym.0 < length universe.now.symbols }
+    ensures { IfOk result (λ r. (spreads : List Tree) → IsStock universe.now spreads shelf.now weight
+        → FirstOf universe.now shelf.now weight (Here universe.now (IsConsidered universe.now spreads) weight 1 sym.0) r) }
 {
-    let own = weight_at(sig, sym);
+    let own = universe.weight_at(sym);
     if weight < own {
         return Ok(None);
     }
-    if !is_explored(sig, sym) {
+    if !universe.is_explored(sym) {
         return Ok(None);
     }
-    let choices = choices(alloc, shelf, sig.args_of(sym))?;
+    let choices = choices(alloc, shelf, universe.args_of(sym))?;
     match Walk::start(alloc, choices, weight - own)? {
         Some(walk) => Ok(Some(Candidate::App(sym, walk))),
         None => Ok(None),
@@ -95,15 +72,15 @@ pub fn next_of_symbol(alloc: Global, sym: SymId, walk: Walk) -> Result<Option<Ca
 /// The first candidate of this weight from a symbol on.
 pub fn first_from_symbol(
     alloc: Global,
-    sig: &Sig,
+    universe: &Universe,
     shelf: &[Seq<Seq<Spread>>],
     weight: u32,
     from: u32,
 ) -> Result<Option<Candidate>, NoMemory>
-    ensures { IfOk result (λ r. (spreads : List Tree) → IsStock sig.now spreads shelf.now weight → FirstFrom sig.now spreads shelf.now weight from r) }
+    ensures { IfOk result (λ r. (spreads : List Tree) → IsStock universe.now spreads shelf.now weight → FirstFrom universe.now spreads shelf.now weight from r) }
 {
-    for number in from..sig.symbols() {
-        match first_of_symbol(alloc, sig, shelf, weight, SymId(number))? {
+    for number in from..universe.symbols() {
+        match first_of_symbol(alloc, universe, shelf, weight, SymId(number))? {
             Some(found) => return Ok(Some(found)),
             None => continue,
         }

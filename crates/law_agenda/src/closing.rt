@@ -12,6 +12,7 @@ use super::candidates::Candidate;
 use super::rows::Pick;
 use super::shelves::Spread;
 use super::stores::{Found, Store, next_schema};
+use super::universe::Universe;
 use law_sig::{NoMemory, Seq, Sig, SortId, Tree};
 use std::alloc::Global;
 
@@ -110,15 +111,15 @@ pub fn empty_store(alloc: Global, sig: &Sig) -> Result<Store, NoMemory>
 /// The schema that comes after this one, which is put into the store.
 pub fn close(
     alloc: Global,
-    sig: &Sig,
+    universe: &Universe,
     store: Store,
     last: Candidate,
     spread: Spread,
 ) -> Result<Found, NoMemory>
     ensures items { IfOk result (λ r. (e : Spread) → IsItem r.store e → IsItem store e ⊎ (e ≡ spread)) }
-    ensures next { IfOk result (λ r. (spreads : List Tree) → IsStore sig.now spreads store → IsCandidate sig.now store.shelf store.weight last spread.schema → IsFitting store last
-        → IsClosed sig.now spreads spread.schema → IsStore sig.now (spreads ++ spread.schema ∷ []) r.store
-        × NextOf sig.now r.store.shelf r.store.weight (IsConsidered sig.now (spreads ++ spread.schema ∷ [])) spread.schema r.next) }
+    ensures next { IfOk result (λ r. (spreads : List Tree) → IsStore universe.now spreads store → IsCandidate universe.now store.shelf store.weight last spread.schema → IsFitting store last
+        → IsClosed universe.now spreads spread.schema → IsStore universe.now (spreads ++ spread.schema ∷ []) r.store
+        × NextOf universe.now r.store.shelf r.store.weight (IsConsidered universe.now (spreads ++ spread.schema ∷ [])) spread.schema r.next) }
 {
     let mut level = store.level;
     level.push(spread)?;
@@ -127,5 +128,5 @@ pub fn close(
         level,
         shelf: store.shelf,
     };
-    next_schema(alloc, sig, more, last)
+    next_schema(alloc, universe, more, last)
 }

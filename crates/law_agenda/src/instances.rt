@@ -1,5 +1,4 @@
 ghost use Rattle.std.specs.Prelude.{◌≡◌, ◌↔◌, ◌++◌, IfOk, OnOk, IsTrue, List, [], ◌<◌, length, slice_get, slice_index_or};
-ghost use Rattle.std.specs.Option.{option_copied};
 ghost use Rattle.law_sig.specs.declared.tree.Tree.{Tree};
 ghost use Rattle.law_agenda.specs.Shelves.{bucket, sorts_of};
 ghost use Rattle.law_agenda.specs.Choices.{Picked};

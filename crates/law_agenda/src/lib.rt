@@ -9,6 +9,8 @@ mod instances;
 mod rows;
 mod shelves;
 mod stores;
+mod universe;
 mod walks;
 
 pub use agenda::Agenda;
+pub use universe::Universe;

@@ -1,5 +1,4 @@
-ghost use Rattle.std.specs.Prelude.{◌≡◌, ◌<◌, ◌≤◌, ◌+◌, ◌-◌, ◌++◌, ◌∷◌, ◌^◌, min, List, ℕ, [], length, IfOk};
-ghost use Rattle.std.specs.Option.{MatchOption};
+ghost use Rattle.std.specs.Prelude.{◌≡◌, ◌<◌, ◌+◌, ◌-◌, ◌++◌, ◌∷◌, ◌^◌, min, List, [], length, IfOk};
 ghost use Rattle.law_sig.specs.declared.tree.Tree.{Tree};
 ghost use Rattle.law_valid.specs.Schemas.{IsConsidered};
 ghost use Rattle.law_agenda.specs.Candidates.{IsCandidate, FirstOf, NextOf};
@@ -9,6 +8,7 @@ ghost use Rattle.law_agenda.specs.Stores.{IsStore, FirstVar, IsFitting, HasNoOth
 
 use super::candidates::{Candidate, first_from_symbol, next_of_symbol, vars_at};
 use super::shelves::{Spread, sorted_out};
+use super::universe::Universe;
 use law_sig::{NoMemory, Seq, Sig, SortId};
 use std::alloc::Global;
 
@@ -44,22 +44,27 @@ fn heavier(alloc: Global, sig: &Sig, store: Store) -> Result<Store, NoMemory>
 }
 
 /// The first application of the weight at hand from a symbol on, or of a greater weight.
-fn first_application(alloc: Global, sig: &Sig, store: Store, from: u32) -> Result<Found, NoMemory>
+fn first_application(
+    alloc: Global,
+    universe: &Universe,
+    store: Store,
+    from: u32,
+) -> Result<Found, NoMemory>
     ensures items { IfOk result (λ r. HasNoOther store r.store) }
-    ensures first { IfOk result (λ r. (spreads : List Tree) → IsStore sig.now spreads store
-        → IsStore sig.now spreads r.store × FirstOf sig.now r.store.shelf r.store.weight (Onward sig.now (IsConsidered sig.now spreads) store.weight 1 from) r.next) }
+    ensures first { IfOk result (λ r. (spreads : List Tree) → IsStore universe.now spreads store
+        → IsStore universe.now spreads r.store × FirstOf universe.now r.store.shelf r.store.weight (Onward universe.now (IsConsidered universe.now spreads) store.weight 1 from) r.next) }
 {
-    match first_from_symbol(alloc, sig, store.shelf.as_slice(), store.weight, from)? {
+    match first_from_symbol(alloc, universe, store.shelf.as_slice(), store.weight, from)? {
         Some(found) => Ok(Found {
             store,
             next: Some(found),
         }),
         None => {
-            if store.weight >= sig.settings().size {
+            if store.weight >= universe.size() {
                 return Ok(Found { store, next: None });
             }
-            let more = heavier(alloc, sig, store)?;
-            first_application(alloc, sig, more, 0)
+            let more = heavier(alloc, universe.sig(), store)?;
+            first_application(alloc, universe, more, 0)
         }
     }
 }
@@ -78,39 +83,44 @@ fn first_var(sig: &Sig, from: u32) -> Option<SortId>
 }
 
 /// The first variable from a sort on, or the first application.
-pub fn first_schema(alloc: Global, sig: &Sig, store: Store, from: u32) -> Result<Found, NoMemory>
+pub fn first_schema(
+    alloc: Global,
+    universe: &Universe,
+    store: Store,
+    from: u32,
+) -> Result<Found, NoMemory>
     ensures items { IfOk result (λ r. HasNoOther store r.store) }
-    ensures first { IfOk result (λ r. (spreads : List Tree) → IsStore sig.now spreads store → store.weight ≡ 1
-        → IsStore sig.now spreads r.store × FirstOf sig.now r.store.shelf r.store.weight (Onward sig.now (IsConsidered sig.now spreads) 1 0 from) r.next) }
+    ensures first { IfOk result (λ r. (spreads : List Tree) → IsStore universe.now spreads store → store.weight ≡ 1
+        → IsStore universe.now spreads r.store × FirstOf universe.now r.store.shelf r.store.weight (Onward universe.now (IsConsidered universe.now spreads) 1 0 from) r.next) }
 {
-    match first_var(sig, from) {
+    match first_var(universe.sig(), from) {
         Some(sort) => Ok(Found {
             store,
             next: Some(Candidate::Var(sort)),
         }),
-        None => first_application(alloc, sig, store, 0),
+        None => first_application(alloc, universe, store, 0),
     }
 }
 
 /// The schema that comes after this one.
 pub fn next_schema(
     alloc: Global,
-    sig: &Sig,
+    universe: &Universe,
     store: Store,
     last: Candidate,
 ) -> Result<Found, NoMemory>
     ensures items { IfOk result (λ r. HasNoOther store r.store) }
-    ensures next { IfOk result (λ r. (spreads : List Tree) (t : Tree) → IsStore sig.now spreads store → IsCandidate sig.now store.shelf store.weight last t → IsConsidered sig.now spreads t → IsFitting store last
-        → IsStore sig.now spreads r.store × NextOf sig.now r.store.shelf r.store.weight (IsConsidered sig.now spreads) t r.next) }
+    ensures next { IfOk result (λ r. (spreads : List Tree) (t : Tree) → IsStore universe.now spreads store → IsCandidate universe.now store.shelf store.weight last t → IsConsidered universe.now spreads t → IsFitting store last
+        → IsStore universe.now spreads r.store × NextOf universe.now r.store.shelf r.store.weight (IsConsidered universe.now spreads) t r.next) }
 {
     match last {
-        Candidate::Var(sort) => first_schema(alloc, sig, store, sort.0.saturating_add(1)),
+        Candidate::Var(sort) => first_schema(alloc, universe, store, sort.0.saturating_add(1)),
         Candidate::App(sym, walk) => match next_of_symbol(alloc, sym, walk)? {
             Some(next) => Ok(Found {
                 store,
                 next: Some(next),
             }),
-            None => first_application(alloc, sig, store, sym.0.saturating_add(1)),
+            None => first_application(alloc, universe, store, sym.0.saturating_add(1)),
         },
     }
 }

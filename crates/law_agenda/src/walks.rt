@@ -1,7 +1,7 @@
-ghost use Rattle.std.specs.Prelude.{◌≡◌, ℕ, ◌∷◌, ◌<◌, ◌^◌, [], IfOk};
+ghost use Rattle.std.specs.Prelude.{◌≡◌, ◌∷◌, ◌<◌, [], IfOk};
 ghost use Rattle.std.specs.Option.{MatchOption};
 ghost use Rattle.law_valid.specs.Expected.{IsFirstAbove, IsSpent};
-ghost use Rattle.law_agenda.specs.Rows.{Lex, IsLower, IsRow, AreFits};
+ghost use Rattle.law_agenda.specs.Rows.{Lex, IsLower, IsRow};
 ghost use Rattle.law_agenda.specs.Walking.{IsWalk};
 
 use super::rows::{Pick, first_from, fits_of, next_row};

@@ -1,6 +1,6 @@
 -- The answer to an entry, by what was tested of it.
-use Rattle.std.proofs.Common.{◌≡◌, ◌↔◌, ℕ, zero, suc, ◌+◌, ◌⊎◌, inl, inr, IsTrue, Bool, true, false, true≢false, is_some, Option, Some, None, MatchOption, slice_get, List, [], ◌∷◌, length, refl, sym, ap, ◌∙◌, subst}
-use Rattle.law_sig.specs.Lists.{In, Each}
+use Rattle.std.proofs.Common.{◌≡◌, ◌↔◌, ℕ, zero, suc, ◌+◌, inl, inr, IsTrue, Bool, true, false, true≢false, is_some, Option, Some, None, MatchOption, slice_get, List, [], ◌∷◌, length, refl, sym, ap, ◌∙◌, subst}
+use Rattle.law_sig.specs.Lists.{In}
 use Rattle.law_sig.specs.Lists.In.{here, there}
 use Rattle.law_sig.specs.Trees.{schema_of}
 use Rattle.law_sig.specs.declared.tree.Tree.{Tree}
@@ -17,7 +17,7 @@ use Rattle.law_valid.specs.declared.rule.Answer.{Answer}
 use Rattle.law_valid.specs.declared.rule.Answer.TheVariants.{Yes, No}
 use Rattle.law_valid.specs.declared.rule.Rule.TheVariants as r
 use Rattle.law_valid.specs.Stated.{stated, live_at, known}
-use Rattle.law_valid.specs.Judged.{AtTests, Block, IsBlockSpent, AreSchemasSpent, HasSides, entry_after}
+use Rattle.law_valid.specs.Judged.{AtTests, Block, IsBlockSpent, AreSchemasSpent, HasSides}
 use Rattle.law_agenda.specs.Progress.{Progress, IsSchemaNext, AreSpent, IsTermNext, IsTermSpent}
 use Rattle.law_check.specs.Rules.{TellsLemma, TellsKilled, TellsMoved}
 use Rattle.law_agenda.specs.Agendas.{IsAt}

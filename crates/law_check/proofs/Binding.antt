@@ -17,17 +17,14 @@ use Rattle.law_laws.proofs.Sorts.{same_sort_is, same_sort_itself, both_true}
 use Rattle.law_laws.proofs.Universe.{either_true, right_true}
 use Rattle.law_valid.specs.declared.certificate.Bind.{Bind}
 use Rattle.law_valid.specs.Chains.{StandsBefore, AreBinds, is_bound}
+use Rattle.law_agenda.proofs.Bounds.{all_of}
 use Rattle.law_check.specs.Binds.{stands, stands_step, is_given, is_covered, covered_step, fits, is_earlier, rises}
 
 -- Bools
 
-pub any_of : {A : Type 0} (f : A → Bool) (xs : List A) → list_any (λ b. b) (map f xs) ≡ list_any f xs
+any_of : {A : Type 0} (f : A → Bool) (xs : List A) → list_any (λ b. b) (map f xs) ≡ list_any f xs
 any_of f [] = refl
 any_of f (x ∷ xs) = ap (λ b. f x || b) (any_of f xs)
-
-pub all_of : {A : Type 0} (f : A → Bool) (xs : List A) → list_all (λ b. b) (map f xs) ≡ list_all f xs
-all_of f [] = refl
-all_of f (x ∷ xs) = ap (λ b. f x && b) (all_of f xs)
 
 -- What the tests are at an application
 

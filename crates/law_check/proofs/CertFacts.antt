@@ -1,6 +1,6 @@
 -- What is said of a whole certificate.
-use Rattle.std.proofs.Common.{◌≡◌, ◌↔◌, ℕ, zero, suc, ◌≤◌, ◌⊎◌, inl, inr, IsTrue, Bool, true, false, true≢false, Option, Some, None, is_some, slice_get, List, [], ◌∷◌, length, refl, sym, ap, ◌∙◌, subst, arith, rules, nat_lt, if◌then◌else◌}
-use Rattle.law_sig.specs.Lists.{In, Each}
+use Rattle.std.proofs.Common.{◌≡◌, ◌↔◌, ℕ, ◌≤◌, inl, inr, IsTrue, Bool, true, false, true≢false, Option, Some, None, is_some, List, [], refl, sym, ap, ◌∙◌, subst, arith, rules, nat_lt, if◌then◌else◌}
+use Rattle.law_sig.specs.Lists.{Each}
 use Rattle.law_sig.specs.Trees.{node_count}
 use Rattle.law_sig.specs.Counts.{at_most}
 use Rattle.law_sig.proofs.TermCounts.{some_within}
@@ -25,7 +25,7 @@ use Rattle.law_valid.specs.declared.rule.Rule.{Rule}
 use Rattle.law_valid.specs.declared.rule.Rule.TheVariants as r
 use Rattle.law_valid.specs.Valid.{IsWithinLimits}
 use Rattle.law_valid.specs.Judged.{Background, Entries, InTrees, entry_after, Judged}
-use Rattle.law_valid.specs.Named.{pools_named, entries_named, AreTreesOf, Meaning, IsValidCert, JudgedCert}
+use Rattle.law_valid.specs.Named.{pools_named, entries_named, Meaning, IsValidCert, JudgedCert}
 use Rattle.law_valid.specs.Certificates.{CertCovers, CertYesIsValid, OneCertAnswer, SpelledMeans}
 use Rattle.law_check.specs.declared.verdict.CheckErr.TheVariants as err
 use Rattle.law_check.specs.declared.verdict.Counts.{Counts}

@@ -11,7 +11,6 @@ pub mod Foresting
 pub mod Goes
 pub mod Counted
 pub mod Comparing
-pub mod Bounds
 mod SameLists
 pub mod CertFacts
 pub mod Falling

@@ -1,23 +1,13 @@
 -- Tables of names that grow.
-use Rattle.std.proofs.Common.{◌≡◌, ℕ, zero, suc, ◌+◌, List, [], ◌∷◌, ◌++◌, map, length, Bool, true, false, cond, Option, Some, None, refl, sym, ap, ◌∙◌, arith, true≢false, is_some, nat_eq, eqb-true, eq-eqb, ap₂, ◌&&◌, slice_get, option_map, take, subst}
-use Rattle.std.specs.Prelude.{Vec, vec_items, bytes_eq}
+use Rattle.std.proofs.Common.{◌≡◌, ℕ, zero, suc, ◌+◌, List, [], ◌∷◌, ◌++◌, length, Bool, true, false, cond, Option, Some, None, refl, sym, ap, ◌∙◌, arith, true≢false, is_some, slice_get, take, subst}
+use Rattle.std.specs.Prelude.{Vec, vec_items}
 use Rattle.std.specs.Map.{lookup}
-use Rattle.std.specs.List.{position_from}
 use Rattle.std.specs.Option.{option_or}
-use Rattle.indexmap.specs.IndexMap.{IndexMap, get, insert_entry}
-use Rattle.indexmap.proofs.CallerLemmas.{insert_entry-new}
-use Rattle.law_sig.specs.Tests.{all_present}
-use Rattle.law_sig.specs.declared.tree.Tree.{Tree}
-use Rattle.law_sig.specs.declared.parts.SigParts.{SigParts}
-use Rattle.law_read.specs.declared.raw.RawTerm.{RawTerm}
-use Rattle.law_read.specs.declared.raw.RawTerm.TheViews.{out-RawTerm}
-use Rattle.law_read.specs.declared.raw.RawTerm.TheFolds.{fold_out-RawTerm}
 use Rattle.law_laws.proofs.BodyFacts.{some_is, none_is}
 use Rattle.law_types.specs.Names.{same_name, number_of}
 use Rattle.law_types.specs.Table.{Finds}
 use Rattle.law_types.proofs.NameTable.{names_same, position_more, lookup_more}
 use Rattle.law_check.specs.NameTables.{noted, FindsMore}
-use Rattle.law_types.specs.TypedTerm.{tree_of, tree_over, tree_step}
 
 -- a name that is noted is found there still, and the other names too
 pub still_finds : {A : Type 0} (es : List (Vec ℕ A × ℕ)) (name : List ℕ) (number : ℕ) → is_some (noted name es) ≡ true → FindsMore es name number es

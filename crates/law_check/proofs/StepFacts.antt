@@ -1,12 +1,11 @@
 -- What is asked of one entry, and then the rest; and what has been seen after it.
-use Rattle.std.proofs.Common.{◌≡◌, ◌≢◌, ◌↔◌, ℕ, zero, suc, ◌+◌, ◌⊎◌, inl, inr, IsTrue, Bool, true, false, true≢false, Option, Some, None, List, [], ◌∷◌, ◌++◌, length, refl, sym, ap, ◌∙◌, subst, append_assoc, append-nil, lt-ltb, arith}
-use Rattle.law_sig.specs.Lists.{In, Each, Rising, AreDistinct}
+use Rattle.std.proofs.Common.{◌≡◌, ◌≢◌, ℕ, zero, suc, ◌+◌, ◌⊎◌, inl, inr, Bool, true, false, Option, Some, None, List, [], ◌∷◌, ◌++◌, refl, sym, ap, ◌∙◌, subst, append_assoc, append-nil, lt-ltb}
+use Rattle.law_sig.specs.Lists.{In, Each, AreDistinct}
 use Rattle.law_sig.specs.Trees.{schema_of}
 use Rattle.law_sig.specs.WellFormed.{vars_step}
 use Rattle.law_sig.specs.Tests.{InU, Pools, test_count, val}
 use Rattle.law_sig.specs.Order.{IsBefore}
 use Rattle.law_sig.specs.declared.tree.Tree.{Tree}
-use Rattle.law_sig.specs.declared.tree.Tree.TheVariants.{Var, App}
 use Rattle.law_sig.specs.declared.parts.Equation.{Equation}
 use Rattle.law_sig.specs.declared.parts.SigParts.{SigParts}
 use Rattle.law_laws.specs.Renaming.{has_vars}
@@ -15,7 +14,6 @@ use Rattle.law_laws.proofs.ListFacts.{each_map, each_of, of_each}
 use Rattle.law_laws.proofs.Orders.{never_before_itself}
 use Rattle.law_laws.proofs.Sorts.{var_sorted}
 use Rattle.law_laws.proofs.Renaming.{all_true, bounded_vars}
-use Rattle.law_gen.specs.Draws.{pools_by}
 use Rattle.law_test.specs.Values.{IsTestable}
 use Rattle.law_valid.specs.declared.certificate.Entry.{Entry}
 use Rattle.law_valid.specs.declared.certificate.Entry.TheVariants as e
@@ -27,7 +25,7 @@ use Rattle.law_valid.specs.declared.rule.Rule.TheVariants as r
 use Rattle.law_valid.specs.Stated.{stated, equation_at, schema_at, spread_at, live_at, known}
 use Rattle.law_valid.specs.Schemas.{IsConsidered}
 use Rattle.law_valid.specs.Schemas.IsConsidered.{variable, application}
-use Rattle.law_valid.specs.Judged.{If, Valued, Tests, AtTests, Background, Block, IsBlockSpent, IsNextTerm, AreSchemasSpent, HasSides, Entries, entry_after}
+use Rattle.law_valid.specs.Judged.{If, Valued, Tests, AtTests, Background, Block, IsNextTerm, Entries, entry_after}
 use Rattle.law_valid.specs.Expected.{IsAbove}
 use Rattle.law_valid.proofs.StatedFacts.{stated_parts, each_both, rising_both}
 use Rattle.law_valid.proofs.Blocks.{spread_schema}
@@ -35,7 +33,7 @@ use Rattle.law_valid.proofs.Passing.{if_yes, never_no}
 use Rattle.law_agenda.specs.Progress.{Progress, at_start, after_spread, after_killed, after_term, IsSchemaNext, IsTermNext, IsTermSpent}
 use Rattle.law_agenda.specs.Agendas.{IsAt}
 use Rattle.law_check.specs.declared.entries.Seen.{Seen}
-use Rattle.law_check.specs.Steps.{IsYes, OfEntry, OfEnd, block_after, progress, HasSeen, SeesMore}
+use Rattle.law_check.specs.Steps.{OfEntry, OfEnd, block_after, progress, HasSeen, SeesMore}
 
 -- Another rest
 

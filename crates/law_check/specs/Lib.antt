@@ -1,6 +1,5 @@
 pub mod Verdicts
 pub mod NameTables
-pub mod Marks
 pub mod Counting
 pub mod Replaying
 pub mod Binds

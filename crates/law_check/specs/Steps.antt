@@ -1,9 +1,8 @@
 -- The order of checking entry by entry: what is asked of one by those before it, and what has been seen when its turn comes.
-use Rattle.std.specs.Prelude.{◌≡◌, ℕ, ◌+◌, List, [], ◌∷◌, ◌++◌, map, take, drop, Option, Some, None}
+use Rattle.std.specs.Prelude.{◌≡◌, ℕ, ◌+◌, List, [], ◌∷◌, ◌++◌, take, drop, Option, Some, None}
 use Rattle.law_sig.specs.Lists.{Each, AreDistinct}
 use Rattle.law_sig.specs.Trees.{schema_of}
 use Rattle.law_sig.specs.Tests.{Pools}
-use Rattle.law_sig.specs.declared.tree.Tree.{Tree}
 use Rattle.law_sig.specs.declared.parts.SigParts.{SigParts}
 use Rattle.law_cert.specs.declared.cert.Entry.{Entry as Written}
 use Rattle.law_cert.specs.declared.cert.SortTree.{SortTree as WrittenTree}
@@ -18,7 +17,7 @@ use Rattle.law_valid.specs.declared.rule.Rule.TheVariants as r
 use Rattle.law_valid.specs.Stated.{stated, schema_at, spread_at, live_at, known}
 use Rattle.law_valid.specs.Valid.{IsNextNumber, IsLemma, IsKilled, IsMoved}
 use Rattle.law_valid.specs.Judged.{If, AtTests, Block, IsBlockSpent, IsNextTerm, IsNextSchema, AreSchemasSpent, HasSides, Entries, InTrees, with_term, entry_after}
-use Rattle.law_valid.specs.Named.{entry_named, entries_named, AreTreesOf}
+use Rattle.law_valid.specs.Named.{entries_named, AreTreesOf}
 use Rattle.law_agenda.specs.Progress.{Progress}
 use Rattle.law_agenda.specs.Agendas.{IsAt}
 use Rattle.law_check.specs.declared.entries.Seen.{Seen}

@@ -1,4 +1,4 @@
-ghost use Rattle.std.specs.Prelude.{◌≡◌, ◌↔◌, [], ◌∷◌, ◌++◌, ◌+◌, length, map, None, IfOk, IsTrue};
+ghost use Rattle.std.specs.Prelude.{◌≡◌, ◌↔◌, [], ◌+◌, length, map, None, IfOk, IsTrue};
 ghost use Rattle.std.specs.List.{AllByRecursion};
 ghost use Rattle.law_value.specs.Values.{Grows};
 ghost use Rattle.law_test.specs.Values.{ArePools};
@@ -10,11 +10,11 @@ ghost use Rattle.law_check.specs.Steps.{HasSeen, HasPlace, IsAnswerTo, IsAnswerA
 use crate::forest::judge_trees;
 use crate::names::Names;
 use crate::rules::{is_killed, is_lemma, is_moved};
-use crate::terms::{Universe, schema};
+use crate::terms::schema;
 use crate::values::{agree, is_yes};
-use law_agenda::Agenda;
+use law_agenda::{Agenda, Universe};
 use law_cert::{Entry as Written, SortTree};
-use law_sig::{Equation, NoMemory, Seq, Sig, SortId, Tree};
+use law_sig::{Equation, NoMemory, Seq, SortId, Tree};
 use law_test::{TermTable, Tester};
 use law_valid::{Answer, Entry, Rule, Step};
 use law_value::ValueBank;
@@ -210,14 +210,14 @@ fn copy_equation(alloc: Global, q: &Equation) -> Result<Equation, NoMemory>
 }
 
 /// Before the first entry.
-fn before_all(alloc: Global, sig: &Sig) -> Result<Seen, NoMemory>
-    ensures { IfOk result (λ seen. HasSeen sig.now [] None seen) }
+fn before_all(alloc: Global, universe: &Universe) -> Result<Seen, NoMemory>
+    ensures { IfOk result (λ seen. HasSeen universe.now [] None seen) }
 {
     let mut known = Seq::new(alloc);
-    for q in sig.settings().background.as_slice() {
+    for q in universe.sig().settings().background.as_slice() {
         known.push(copy_equation(alloc, q)?)?;
     }
-    let agenda = Agenda::new(alloc, sig)?;
+    let agenda = Agenda::new(alloc, universe)?;
     Ok(Seen {
         known,
         spreads: Seq::new(alloc),
@@ -226,8 +226,8 @@ fn before_all(alloc: Global, sig: &Sig) -> Result<Seen, NoMemory>
     })
 }
 
-fn with_law(sig: &Sig, seen: Seen, number: u64, q: Equation) -> Result<Seen, NoMemory>
-    ensures { IfOk result (SeesMore sig.now seen (e.Law number q)) }
+fn with_law(universe: &Universe, seen: Seen, number: u64, q: Equation) -> Result<Seen, NoMemory>
+    ensures { IfOk result (SeesMore universe.now seen (e.Law number q)) }
 {
     let mut seen = seen;
     seen.known.push(q)?;
@@ -235,21 +235,26 @@ fn with_law(sig: &Sig, seen: Seen, number: u64, q: Equation) -> Result<Seen, NoM
 }
 
 fn with_lemma(
-    sig: &Sig,
+    universe: &Universe,
     seen: Seen,
     number: u64,
     q: Equation,
     steps: &[Step],
 ) -> Result<Seen, NoMemory>
-    ensures { IfOk result (SeesMore sig.now seen (e.Lemma number q steps.now)) }
+    ensures { IfOk result (SeesMore universe.now seen (e.Lemma number q steps.now)) }
 {
     let mut seen = seen;
     seen.known.push(q)?;
     Ok(seen)
 }
 
-fn with_spread(alloc: Global, sig: &Sig, seen: Seen, schema: Tree) -> Result<Seen, NoMemory>
-    ensures { IfOk result (SeesMore sig.now seen (e.Spread schema)) }
+fn with_spread(
+    alloc: Global,
+    universe: &Universe,
+    seen: Seen,
+    schema: Tree,
+) -> Result<Seen, NoMemory>
+    ensures { IfOk result (SeesMore universe.now seen (e.Spread schema)) }
 {
     let Seen {
         known,
@@ -257,7 +262,7 @@ fn with_spread(alloc: Global, sig: &Sig, seen: Seen, schema: Tree) -> Result<See
         lives,
         agenda,
     } = seen;
-    let next = agenda.spread(alloc, sig, &schema)?;
+    let next = agenda.spread(alloc, universe, &schema)?;
     spreads.push(schema)?;
     Ok(Seen {
         known,
@@ -269,12 +274,12 @@ fn with_spread(alloc: Global, sig: &Sig, seen: Seen, schema: Tree) -> Result<See
 
 fn with_killed(
     alloc: Global,
-    sig: &Sig,
+    universe: &Universe,
     seen: Seen,
     q: &Equation,
     steps: &[Step],
 ) -> Result<Seen, NoMemory>
-    ensures { IfOk result (SeesMore sig.now seen (e.Killed q.now steps.now)) }
+    ensures { IfOk result (SeesMore universe.now seen (e.Killed q.now steps.now)) }
 {
     let Seen {
         known,
@@ -282,7 +287,7 @@ fn with_killed(
         lives,
         agenda,
     } = seen;
-    let next = agenda.kill(alloc, sig)?;
+    let next = agenda.kill(alloc, universe)?;
     Ok(Seen {
         known,
         spreads,
@@ -291,8 +296,8 @@ fn with_killed(
     })
 }
 
-fn with_live(alloc: Global, sig: &Sig, seen: Seen, term: Tree) -> Result<Seen, NoMemory>
-    ensures { IfOk result (SeesMore sig.now seen (e.Live term)) }
+fn with_live(alloc: Global, universe: &Universe, seen: Seen, term: Tree) -> Result<Seen, NoMemory>
+    ensures { IfOk result (SeesMore universe.now seen (e.Live term)) }
 {
     let Seen {
         known,
@@ -300,7 +305,7 @@ fn with_live(alloc: Global, sig: &Sig, seen: Seen, term: Tree) -> Result<Seen, N
         mut lives,
         agenda,
     } = seen;
-    let next = agenda.take_term(alloc, sig, true)?;
+    let next = agenda.take_term(alloc, universe, true)?;
     lives.push(term)?;
     Ok(Seen {
         known,
@@ -312,12 +317,12 @@ fn with_live(alloc: Global, sig: &Sig, seen: Seen, term: Tree) -> Result<Seen, N
 
 fn with_moved(
     alloc: Global,
-    sig: &Sig,
+    universe: &Universe,
     seen: Seen,
     q: &Equation,
     steps: &[Step],
 ) -> Result<Seen, NoMemory>
-    ensures { IfOk result (SeesMore sig.now seen (e.Moved q.now steps.now)) }
+    ensures { IfOk result (SeesMore universe.now seen (e.Moved q.now steps.now)) }
 {
     let Seen {
         known,
@@ -325,7 +330,7 @@ fn with_moved(
         lives,
         agenda,
     } = seen;
-    let next = agenda.take_term(alloc, sig, false)?;
+    let next = agenda.take_term(alloc, universe, false)?;
     Ok(Seen {
         known,
         spreads,
@@ -335,16 +340,21 @@ fn with_moved(
 }
 
 /// After an entry of which nothing is wrong.
-fn with_entry(alloc: Global, sig: &Sig, seen: Seen, entry: Entry) -> Result<Seen, NoMemory>
-    ensures { IfOk result (SeesMore sig.now seen entry) }
+fn with_entry(
+    alloc: Global,
+    universe: &Universe,
+    seen: Seen,
+    entry: Entry,
+) -> Result<Seen, NoMemory>
+    ensures { IfOk result (SeesMore universe.now seen entry) }
 {
     match entry {
-        Entry::Law(number, q) => with_law(sig, seen, number, q),
-        Entry::Lemma(number, q, steps) => with_lemma(sig, seen, number, q, steps.as_slice()),
-        Entry::Spread(schema) => with_spread(alloc, sig, seen, schema),
-        Entry::Killed(q, steps) => with_killed(alloc, sig, seen, &q, steps.as_slice()),
-        Entry::Live(term) => with_live(alloc, sig, seen, term),
-        Entry::Moved(q, steps) => with_moved(alloc, sig, seen, &q, steps.as_slice()),
+        Entry::Law(number, q) => with_law(universe, seen, number, q),
+        Entry::Lemma(number, q, steps) => with_lemma(universe, seen, number, q, steps.as_slice()),
+        Entry::Spread(schema) => with_spread(alloc, universe, seen, schema),
+        Entry::Killed(q, steps) => with_killed(alloc, universe, seen, &q, steps.as_slice()),
+        Entry::Live(term) => with_live(alloc, universe, seen, term),
+        Entry::Moved(q, steps) => with_moved(alloc, universe, seen, &q, steps.as_slice()),
     }
 }
 
@@ -387,7 +397,7 @@ pub(crate) fn judge_entries(
     requires trees { AllByRecursion IsTree trees.now }
     ensures { IfOk result (AnswersAll tester.now.sig.now entries.now trees.now) }
 {
-    let mut seen = before_all(tester.alloc, tester.sig)?;
+    let mut seen = before_all(tester.alloc, universe)?;
     for (at, written) in entries.iter().enumerate() {
         let entry = names.entry(tester.alloc, written)?;
         let number = at as u64 + 1;
@@ -395,7 +405,7 @@ pub(crate) fn judge_entries(
         if !is_yes(&answer) {
             return Ok(answer);
         }
-        seen = with_entry(tester.alloc, tester.sig, seen, entry)?;
+        seen = with_entry(tester.alloc, universe, seen, entry)?;
     }
     let number = entries.len() as u64 + 1;
     let end = at_end(tester, &seen, number);

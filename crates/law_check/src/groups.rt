@@ -1,7 +1,7 @@
-ghost use Rattle.std.specs.Prelude.{◌≡◌, ◌↔◌, ℕ, List, map, IfOk, OnOk, IsTrue, Some};
+ghost use Rattle.std.specs.Prelude.{◌≡◌, ◌↔◌, map, IfOk, OnOk, IsTrue, Some};
 ghost use Rattle.indexmap.specs.IndexMap.{get};
 ghost use Rattle.law_sig.specs.Lists.{AreDistinct};
-ghost use Rattle.law_sig.specs.Trees.{schema_of, joined};
+ghost use Rattle.law_sig.specs.Trees.{joined};
 ghost use Rattle.law_sig.specs.Signature.{sort_of};
 ghost use Rattle.law_check.specs.Planted.{IsOfSort, AreNumbers, AreGroups, IsAdded, same_number, group};
 

@@ -1,4 +1,4 @@
-ghost use Rattle.std.specs.Prelude.{◌≡◌, IfOk};
+ghost use Rattle.std.specs.Prelude.{IfOk};
 ghost use Rattle.law_cert.specs.Certificates.{IsCertText};
 ghost use Rattle.law_test.specs.Values.{ArePools};
 ghost use Rattle.law_check.specs.Verdicts.{JudgedOver, JudgedPools};
@@ -6,8 +6,8 @@ ghost use Rattle.law_check.specs.Verdicts.{JudgedOver, JudgedPools};
 use crate::entries::judge_entries;
 use crate::names::Names;
 use crate::pools::are_pools;
-use crate::terms::Universe;
 use crate::values::{background, is_yes};
+use law_agenda::Universe;
 use law_cert::Cert;
 use law_gen::GenErr;
 use law_pool::Pools;

@@ -1,4 +1,4 @@
-ghost use Rattle.std.specs.Prelude.{◌≡◌, ◌++◌, ◌-◌, ◌^◌, min, IfOk, OnOk, IsTrue};
+ghost use Rattle.std.specs.Prelude.{◌≡◌, ◌++◌, ◌-◌, min, IfOk, OnOk};
 ghost use Rattle.law_check.specs.Lines.{arity, taken, behind, part_of, parts_of, kids_of, is_upper, upper_tests};
 
 use law_cert::TreeLine;

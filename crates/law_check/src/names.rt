@@ -1,5 +1,4 @@
-ghost use Rattle.std.specs.Prelude.{◌≡◌, [], ◌∷◌, ◌++◌, length, map, take, None, Some, IfOk, OnOk};
-ghost use Rattle.law_types.specs.Names.{number_of};
+ghost use Rattle.std.specs.Prelude.{◌≡◌, [], ◌∷◌, ◌++◌, length, map, None, Some, IfOk, OnOk};
 ghost use Rattle.law_types.specs.Table.{Finds};
 ghost use Rattle.law_types.specs.TypedTerm.{tree_over, tree_of};
 ghost use Rattle.law_valid.specs.Named.{sort_named, term_named, bind_named, step_named, entry_named};

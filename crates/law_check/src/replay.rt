@@ -1,4 +1,4 @@
-ghost use Rattle.std.specs.Prelude.{◌≡◌, ◌↔◌, ◌<◌, ◌+◌, [], ◌∷◌, ◌++◌, length, map, take, drop, IfOk, OnOk, IsTrue, option_map};
+ghost use Rattle.std.specs.Prelude.{◌≡◌, ◌↔◌, ◌<◌, IfOk, IsTrue, option_map};
 ghost use Rattle.law_valid.specs.Chains.{start_side, end_side};
 ghost use Rattle.std.specs.Option.{option_copied};
 ghost use Rattle.law_valid.specs.Stated.{numbered};

@@ -7,7 +7,8 @@ ghost use Rattle.law_laws.specs.Derivation.{HasOneSort};
 ghost use Rattle.law_check.specs.Rules.{TellsLemma, TellsKilled, TellsMoved};
 
 use super::replay::replays;
-use super::terms::{Universe, compare, is_general, schema};
+use super::terms::{compare, is_general, schema};
+use law_agenda::Universe;
 use law_sig::{Equation, NoMemory, Sig};
 use law_valid::Step;
 use std::alloc::Global;

@@ -1,4 +1,4 @@
-ghost use Rattle.std.specs.Prelude.{◌≡◌, ◌↔◌, ◌<◌, ◌+◌, [], ◌∷◌, ◌++◌, length, map, take, drop, IfOk, OnOk, IsTrue, MatchOption, option_map};
+ghost use Rattle.std.specs.Prelude.{◌≡◌, ◌↔◌, ◌<◌, ◌+◌, [], ◌∷◌, ◌++◌, length, map, take, drop, IfOk, IsTrue, MatchOption, option_map};
 ghost use Rattle.law_sig.specs.Trees.{substituted};
 ghost use Rattle.law_sig.specs.declared.tree.Tree.TheVariants.{App, Var};
 ghost use Rattle.law_valid.specs.Chains.{bound_in};

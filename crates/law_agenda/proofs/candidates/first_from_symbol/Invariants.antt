@@ -7,4 +7,4 @@ use Rattle.law_agenda.proofs.candidates.first_from_symbol.Given as goal
 
 abbrev pub invariant-loop-number : goal.invariant-loop-number
 invariant-loop-number l = (l.from ≤ l.number)
-    × ((spreads : List Tree) → IsStock l.sig spreads l.shelf l.weight → (y : Tree) → IsConsidered l.sig spreads y → FromStage l.sig l.weight 1 l.from y → FromStage l.sig l.weight 1 l.number y)
+    × ((spreads : List Tree) → IsStock l.universe spreads l.shelf l.weight → (y : Tree) → IsConsidered l.universe spreads y → FromStage l.universe l.weight 1 l.from y → FromStage l.universe l.weight 1 l.number y)

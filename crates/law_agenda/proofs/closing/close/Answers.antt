@@ -1,4 +1,4 @@
-use Rattle.std.proofs.Common.{◌≡◌, ◌++◌, ◌∷◌, [], refl}
+use Rattle.std.proofs.Common.{◌++◌, ◌∷◌, [], refl}
 use Rattle.law_agenda.specs.declared.stores.Store.{Store}
 use Rattle.law_agenda.proofs.Storing.{if_ok}
 use Rattle.law_agenda.proofs.Items.{item_more, fitting_more, closed_by, considered_then}
@@ -14,6 +14,6 @@ returns-clause-next c = if_ok _ _ c.next_schema.result
     (λ r go spreads is cand fits closed.
     let more : Store = record { weight = c.args.store.weight; level = c.push.new.self; shelf = c.args.store.shelf } in
     go (spreads ++ c.args.spread.schema ∷ []) c.args.spread.schema
-    (closed_by c.args.sig.now spreads c.args.store more c.args.last c.args.spread is cand fits closed refl refl c.in_ok-push.ensures.ok)
-    cand (considered_then c.args.sig.now spreads c.args.spread.schema closed.considered) (fitting_more c.args.store more c.args.last refl fits))
+    (closed_by c.args.universe.now spreads c.args.store more c.args.last c.args.spread is cand fits closed refl refl c.in_ok-push.ensures.ok)
+    cand (considered_then c.args.universe.now spreads c.args.spread.schema closed.considered) (fitting_more c.args.store more c.args.last refl fits))
     c.next_schema.ensures.next

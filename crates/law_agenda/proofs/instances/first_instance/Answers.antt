@@ -1,4 +1,4 @@
-use Rattle.std.proofs.Common.{◌≡◌, subst}
+use Rattle.std.proofs.Common.{subst}
 use Rattle.law_agenda.specs.Instances.{IsOpened}
 use Rattle.law_agenda.proofs.Instancing.{first_var_instance}
 use Rattle.law_agenda.proofs.instances.first_instance.Goals as goal

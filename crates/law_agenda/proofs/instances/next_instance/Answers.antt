@@ -1,4 +1,4 @@
-use Rattle.std.proofs.Common.{◌≡◌, ◌<◌, ◌≤◌, ◌+◌, sym, subst, subst₂, arith}
+use Rattle.std.proofs.Common.{◌<◌, ◌≤◌, ◌+◌, sym, subst, subst₂, arith}
 use Rattle.law_agenda.specs.Instances.{IsHeld, IsInstanceOf}
 use Rattle.law_agenda.specs.Walking.{IsWalk}
 use Rattle.law_agenda.proofs.Seeking.{some_case, none_case}

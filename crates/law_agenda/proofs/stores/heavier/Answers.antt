@@ -1,4 +1,4 @@
-use Rattle.std.proofs.Common.{◌≡◌, ◌++◌, ◌∷◌, [], length, ap, ◌∙◌}
+use Rattle.std.proofs.Common.{◌++◌, ◌∷◌, [], length, ap, ◌∙◌}
 use Rattle.law_agenda.specs.Shelves.{sorted_out}
 use Rattle.law_agenda.proofs.Items.{heavier_items}
 use Rattle.law_agenda.proofs.stores.heavier.Goals as goal

@@ -1,4 +1,4 @@
-use Rattle.std.proofs.Common.{◌≡◌, ◌+◌, ◌∙◌, length, map, refl, sym, ap, subst}
+use Rattle.std.proofs.Common.{◌+◌, ◌∙◌, [], None, length, map, refl, sym, ap, subst}
 use Rattle.std.proofs.lemmas.Option.{slice_get_read}
 use Rattle.law_pool.proofs.Reading.{grows_not, grows_on}
 use Rattle.law_sig.specs.Lists.{Each, AreDistinct}
@@ -6,12 +6,16 @@ use Rattle.law_cert.specs.declared.cert.SortTree.{SortTree}
 use Rattle.law_test.specs.Values.{IsTestable}
 use Rattle.law_test.proofs.Testing.{pools_stay}
 use Rattle.law_valid.specs.Named.{sort_named, entry_named}
-use Rattle.law_check.specs.Steps.{IsAnswerTo, SeesMore}
+use Rattle.law_check.specs.Steps.{HasSeen, IsAnswerTo, SeesMore}
 use Rattle.law_check.proofs.WalkFacts.{have_kids, walked_start, walked_place, walked_terms, walked_fault, walked_on, end_fault, end_trees}
 use Rattle.law_check.proofs.entries.judge_entries.Goals as goal
 
 pub loop-at-init : goal.loop-at-init
-loop-at-init c = record { walked = walked_start c.args.tester.now.sig.now c.args.entries.now c.in_ok-seen.seen c.in_ok-seen.ensures; grows = grows_not c.args.bank.now }
+loop-at-init c = record {
+  walked = walked_start c.args.tester.now.sig.now c.args.entries.now c.in_ok-seen.seen
+      (subst (λ p. HasSeen p [] None c.in_ok-seen.seen) c.requires.universe c.in_ok-seen.ensures);
+  grows = grows_not c.args.bank.now;
+}
 
 pub of_entry-requires-clause-pools : goal.of_entry-requires-clause-pools
 of_entry-requires-clause-pools c = pools_stay c.args.tester.now.sig.now c.args.bank.now c.loop-at.bank c.args.tester.now.pools.now c.loop-at.invariant.grows c.requires.pools
@@ -30,7 +34,8 @@ loop-at-preserved c = record {
       (subst (λ p. IsAnswerTo c.args.tester.now.sig.now c.loop-at.seen (c.loop-at.at + 1) (entry_named p c.index-entries-at.result) c.in_ok-answer.answer) c.requires.names
       (subst (λ x. IsAnswerTo c.args.tester.now.sig.now c.loop-at.seen (c.loop-at.at + 1) x c.in_ok-answer.answer) c.in_ok-entry.ensures c.in_ok-answer.ensures.answer)) (c.is_yes.ensures.0 c.if-not-is_yes.false) c.in_ok-seen-2.seen
       (subst (λ p. SeesMore c.args.tester.now.sig.now c.loop-at.seen (entry_named p c.index-entries-at.result) c.in_ok-seen-2.seen) c.requires.names
-      (subst (λ x. SeesMore c.args.tester.now.sig.now c.loop-at.seen x c.in_ok-seen-2.seen) c.in_ok-entry.ensures c.in_ok-seen-2.ensures));
+      (subst (λ x. SeesMore c.args.tester.now.sig.now c.loop-at.seen x c.in_ok-seen-2.seen) c.in_ok-entry.ensures
+      (subst (λ p. SeesMore p c.loop-at.seen c.in_ok-entry.entry c.in_ok-seen-2.seen) c.requires.universe c.in_ok-seen-2.ensures)));
   grows = grows_on c.args.bank.now c.loop-at.bank c.of_entry.new.bank c.loop-at.invariant.grows c.of_entry.ensures.grows;
 }
 

@@ -3,4 +3,4 @@ use Rattle.law_check.proofs.StepFacts.{law_more}
 use Rattle.law_check.proofs.entries.with_law.Goals as goal
 
 pub returns : goal.returns
-returns c = law_more c.args.sig.now c.args.seen _ c.args.number c.args.q (search rules) refl refl refl
+returns c = law_more c.args.universe.now c.args.seen _ c.args.number c.args.q (search rules) refl refl refl

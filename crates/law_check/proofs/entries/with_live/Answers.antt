@@ -3,4 +3,4 @@ use Rattle.law_check.proofs.StepFacts.{live_more}
 use Rattle.law_check.proofs.entries.with_live.Goals as goal
 
 pub returns : goal.returns
-returns c = live_more c.args.sig.now c.args.seen _ c.args.term refl refl (search rules) c.in_ok-next.ensures
+returns c = live_more c.args.universe.now c.args.seen _ c.args.term refl refl (search rules) c.in_ok-next.ensures

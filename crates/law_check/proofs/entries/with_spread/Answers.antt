@@ -3,4 +3,4 @@ use Rattle.law_check.proofs.StepFacts.{spread_more}
 use Rattle.law_check.proofs.entries.with_spread.Goals as goal
 
 pub returns : goal.returns
-returns c = spread_more c.args.sig.now c.args.seen _ c.args.schema refl (search rules) refl c.in_ok-next.ensures
+returns c = spread_more c.args.universe.now c.args.seen _ c.args.schema refl (search rules) refl c.in_ok-next.ensures

@@ -1,4 +1,4 @@
-use Rattle.std.proofs.Common.{rules, sym, ◌∙◌, ap, is_some}
+use Rattle.std.proofs.Common.{rules}
 use Rattle.law_check.proofs.NameFacts.{still_finds, finds_new}
 use Rattle.law_check.proofs.names.with_name.Goals as goal
 

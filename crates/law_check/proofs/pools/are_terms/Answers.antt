@@ -1,4 +1,4 @@
-use Rattle.std.proofs.Common.{◌≡◌, ◌<◌, ◌≤◌, ◌∙◌, length, map, refl, sym, ap, subst, Some}
+use Rattle.std.proofs.Common.{◌<◌, ◌∙◌, length, map, refl, sym, ap, subst, Some}
 use Rattle.std.proofs.lemmas.Option.{slice_get_read}
 use Rattle.law_valid.specs.Named.{term_named}
 use Rattle.law_check.proofs.SameLists.{get_map, same_on}

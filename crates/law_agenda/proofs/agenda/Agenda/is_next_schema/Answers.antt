@@ -1,4 +1,4 @@
-use Rattle.std.proofs.Common.{◌≡◌, sym, subst}
+use Rattle.std.proofs.Common.{sym, subst}
 use Rattle.law_agenda.specs.Candidates.{IsCandidate}
 use Rattle.law_agenda.proofs.Seeking.{some_case}
 use Rattle.law_agenda.proofs.AgendaFacts.{same_schema, ready_of}

@@ -1,4 +1,4 @@
-use Rattle.std.proofs.Common.{◌≡◌, sym, subst}
+use Rattle.std.proofs.Common.{sym, subst}
 use Rattle.law_agenda.specs.Agendas.{IsStage}
 use Rattle.law_agenda.specs.Instances.{IsInstanceOf}
 use Rattle.law_agenda.proofs.AgendaFacts.{same_term}

@@ -1,8 +1,6 @@
-use Rattle.std.proofs.Common.{◌≡◌, List, sym, subst, refl}
+use Rattle.std.proofs.Common.{◌≡◌, List, subst, refl}
 use Rattle.law_agenda.specs.Candidates.{IsCandidate, NextOf}
-use Rattle.law_agenda.specs.Progress.{IsSchemaNext}
 use Rattle.law_agenda.specs.Stores.{IsStore, IsFitting}
-use Rattle.law_agenda.specs.declared.stores.Found.{Found}
 use Rattle.law_sig.specs.declared.parts.SigParts.{SigParts}
 use Rattle.law_sig.specs.declared.tree.Tree.{Tree}
 use Rattle.law_valid.specs.Schemas.{IsConsidered}

@@ -1,6 +1,6 @@
 use Rattle.std.proofs.Common.{◌≡◌, vec_len, take}
-use Rattle.law_check.specs.Marks.{AreMarksOf}
-use Rattle.law_check.proofs.terms.marked.Given as goal
+use Rattle.law_agenda.specs.Marks.{AreMarksOf}
+use Rattle.law_agenda.proofs.universe.marked.Given as goal
 
 abbrev pub invariant-loop-sym : goal.invariant-loop-sym
 invariant-loop-sym l = record {

@@ -1,5 +1,5 @@
 -- Whether a term is in the universe, by what its parts show.
-use Rattle.std.proofs.Common.{◌≡◌, List, map, true, ◌&&◌, sym, ap, ◌∙◌}
+use Rattle.std.proofs.Common.{◌≡◌, List, [], ◌∷◌, map, Bool, true, ◌&&◌, refl, sym, ap, ◌∙◌}
 use Rattle.std.specs.List.{list_all}
 use Rattle.law_sig.specs.Tests.{is_explored, is_bounded}
 use Rattle.law_sig.specs.declared.tree.SymId.{SymId}
@@ -7,7 +7,10 @@ use Rattle.law_sig.specs.declared.tree.Tree.{Tree}
 use Rattle.law_sig.specs.declared.tree.Tree.TheVariants.{App}
 use Rattle.law_sig.specs.declared.parts.SigParts.{SigParts}
 use Rattle.law_laws.proofs.TreeFacts.{bounded-App}
-use Rattle.law_check.proofs.Binding.{all_of}
+
+pub all_of : {A : Type 0} (f : A → Bool) (xs : List A) → list_all (λ b. b) (map f xs) ≡ list_all f xs
+all_of f [] = refl
+all_of f (x ∷ xs) = ap (λ b. f x && b) (all_of f xs)
 
 -- an application of an explored symbol is bounded where its arguments are
 pub bounded_by : (parts : SigParts) (t : Tree) (f : SymId) (args : List Tree) → t ≡ App f args → is_explored parts f ≡ true

@@ -2,7 +2,7 @@ use Rattle.std.proofs.Common.{ℕ, get_or, arith, nat_lt, false, ap, ◌≡◌, 
 use Rattle.std.specs.Option.{unwrap_or}
 use Rattle.std.proofs.lemmas.Option.{unwrap_or-slice_get}
 use Rattle.law_sig.specs.declared.parts.Settings.{Settings}
-use Rattle.law_check.proofs.terms.is_variable.Goals as goal
+use Rattle.law_agenda.proofs.universe.is_variable.Goals as goal
 
 -- nothing is below 0
 never_below : (n m : ℕ) → 0 ≡ m → false ≡ nat_lt n m

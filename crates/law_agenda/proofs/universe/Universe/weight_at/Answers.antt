@@ -2,7 +2,7 @@ use Rattle.std.proofs.Common.{get_or, ap, ◌∙◌}
 use Rattle.std.specs.Option.{unwrap_or}
 use Rattle.std.proofs.lemmas.Option.{unwrap_or-slice_get}
 use Rattle.law_sig.specs.declared.parts.Settings.{Settings}
-use Rattle.law_agenda.proofs.candidates.weight_at.Goals as goal
+use Rattle.law_agenda.proofs.universe.Universe.weight_at.Goals as goal
 
 pub returns-in-None-clause-weight : goal.returns-in-None-clause-weight
 returns-in-None-clause-weight c =
