@@ -197,6 +197,17 @@ fn texts_that_spell_no_certificate(rt: HostRuntime) -> Result<(), Fail> {
     ] {
         assert!(rt; checks_changed(alloc, cert.as_str(), from, to, 3, line)?);
     }
+    let longer = cert_of(alloc, AND, POOL, AND_BODY)?;
+    assert!(rt;
+        checks_changed(
+            alloc,
+            longer.as_str(),
+            "leaf 3\nend\n",
+            "leaf 3\nend\nend\n",
+            3,
+            "line 43: Certificate\n"
+        )?
+    );
     Ok(())
 }
 
