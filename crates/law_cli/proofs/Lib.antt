@@ -3,6 +3,5 @@ pub mod Hearing
 pub mod AnswerFacts
 pub mod Answered
 pub mod OneAnswer
-pub mod CertFaults
 pub mod CheckAnswers
 pub mod Completeness

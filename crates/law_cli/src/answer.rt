@@ -25,6 +25,7 @@ pub fn answer_from<S: Source>(
     ensures answer { IfOk result (λ found. IsAnswerFrom asked (S.left input.old) (S.left input.new) found.status found.text) }
     ensures long { result ≡ Err refusal.TooLong → GaveTooMany (S.left input.old) (S.left input.new) (most_bytes asked) }
     ensures asked { GaveAtMost (S.left input.old) (S.left input.new) (most_bytes asked + 1) }
+    ensures fault_before { result ≡ Err refusal.Fault → GaveAtMost (S.left input.old) (S.left input.new) (most_bytes asked) }
     ensures fault { result ≡ Err refusal.Fault → Rose (S.faults input.old) (S.faults input.new) }
     ensures kept { result ≢ Err refusal.Fault → S.faults input.new ≡ S.faults input.old }
     ensures later { S.faults input.old ≤ S.faults input.new }
