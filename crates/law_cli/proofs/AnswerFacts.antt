@@ -4,7 +4,7 @@ use Rattle.std.specs.Bool.{⊤}
 use Rattle.std.proofs.lemmas.List.{append_assoc}
 use Rattle.law_sig.specs.declared.seq.NoMemory.{NoMemory}
 use Rattle.law_cli.specs.Printed.{status_text}
-use Rattle.law_cli.specs.Answers.{Cause, IsAnswerTo, IsListText, IsOneOf}
+use Rattle.law_cli.specs.Answers.{Cause, IsAnswerTo, IsLawListText, IsOneOf}
 use Rattle.law_cli.specs.Checks.{CheckCause, IsCheckAnswer, IsYesText}
 use Rattle.law_cli.specs.declared.status.Status.{Status}
 use Rattle.law_cli.specs.declared.status.Status.TheVariants as status
@@ -35,7 +35,7 @@ by_line Asked Caused s a never cause is = subst (λ t. IsOneOf Asked Caused a.st
 pub refused : (bytes : List ℕ) (s : Status) (made : Result Answer NoMemory) → Cause bytes s
     → IfOk made (λ (a : Answer). (a.status ≡ s) × (a.text ≡ status_text s)) → IfOk made (λ (a : Answer). IsAnswerTo bytes a.status a.text)
 refused bytes s (Err e) cause is = tt
-refused bytes s (Ok a) cause is = by_line (IsListText bytes) (Cause bytes) s a (λ h. h) cause is
+refused bytes s (Ok a) cause is = by_line (IsLawListText bytes) (Cause bytes) s a (λ h. h) cause is
 
 -- the same of `check`, for every text of the certificate
 pub check_refused : (Read : List ℕ → Type 0) (s : Status) (made : Result Answer NoMemory) → ((bytes : List ℕ) → Read bytes → CheckCause bytes s)

@@ -24,7 +24,7 @@ use Rattle.law_explore.specs.LawList.{IsWithin, IsLawListOf}
 use Rattle.law_explore.specs.Named.{named_list}
 use Rattle.law_explore.proofs.RefusalFacts.{one_refusal, none_within}
 use Rattle.law_cli.specs.Printed.{status_text}
-use Rattle.law_cli.specs.Answers.{most_terms, IsTextOf, IsStated, IsListText, HasTypeFault, IsAnswerTo}
+use Rattle.law_cli.specs.Answers.{most_terms, IsTextOf, IsStated, IsLawListText, HasTypeFault, IsAnswerTo}
 use Rattle.law_cli.specs.declared.status.FormKind.TheVariants as form
 use Rattle.law_cli.specs.declared.status.Which.TheVariants as which
 use Rattle.law_cli.specs.declared.status.Status.{Status}
@@ -59,7 +59,7 @@ record IsRefusedText (bytes : List ℕ) (s : Status) : Type 0 where
   is : s ≡ status_of parts why
 
 record IsListedText (bytes text : List ℕ) (s : Status) : Type 0 where
-  list : IsListText bytes text
+  list : IsLawListText bytes text
   is : s ≡ status.Done
 
 -- the four kinds of answers; all but the last print the line of their status
@@ -132,7 +132,7 @@ two_refused b bytes s u h k =
     let why = one_refusal k.parts most_terms h.why k.why (subst (λ p. IsRefusal p most_terms h.why) same h.refused) k.refused in
     h.is ∙ ap₂ status_of same why ∙ sym k.is
 
-two_listed : Below → (bytes text other : List ℕ) → IsListText bytes text → IsListText bytes other → text ≡ other
+two_listed : Below → (bytes text other : List ℕ) → IsLawListText bytes text → IsLawListText bytes other → text ≡ other
 two_listed b bytes text other h k =
     let lines = same_lines b bytes h.lines k.lines h.stated.text k.stated.text in
     let parts = same_parts b bytes h.lines k.lines h.parts k.parts h.stated k.stated in

@@ -38,7 +38,7 @@ pub record IsStated (bytes : List ℕ) (lines : List RawLine) (parts : SigParts)
 
 -- the text is the spelling of the law list of the signature that the bytes state, over the pools that it gives or those of
 -- its seed; the laws cover the universe, and the grammar of law lists spells the list
-pub record IsListText (bytes text : List ℕ) : Type 0 where
+pub record IsLawListText (bytes text : List ℕ) : Type 0 where
   pub lines : List RawLine
   pub parts : SigParts
   pub stated : IsStated bytes lines parts
@@ -77,4 +77,4 @@ IsOneOf Asked Caused other text = Caused other × (text ≡ status_text other)
 
 -- the answer to these bytes: a status, and the text that is printed with it
 abbrev pub IsAnswerTo : List ℕ → Status → List ℕ → Type 0
-IsAnswerTo bytes = IsOneOf (IsListText bytes) (Cause bytes)
+IsAnswerTo bytes = IsOneOf (IsLawListText bytes) (Cause bytes)

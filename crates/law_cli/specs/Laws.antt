@@ -1,4 +1,4 @@
--- Laws of answers: each text has one for each command, and a good text has what was asked for.
+-- Laws of answers: each text has one at most for each command, and a good text has what was asked for.
 use Rattle.std.specs.Prelude.{◌≡◌, ℕ, List, Option}
 use Rattle.law_sig.specs.declared.parts.SigParts.{SigParts}
 use Rattle.law_read.specs.declared.raw.RawLine.{RawLine}
