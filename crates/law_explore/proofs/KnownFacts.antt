@@ -3,7 +3,8 @@ use Rattle.std.proofs.Common.{◌≡◌, ℕ, zero, suc, ◌+◌, ◌<◌, inl, 
 use Rattle.std.specs.declared.alloc.Global.{Global}
 use Rattle.std.proofs.lemmas.Bool.{cases_lt}
 use Rattle.std.proofs.Math.Nat.{eq-or-lt_of_le}
-use Rattle.std.proofs.lemmas.Option.{slice_get-get_or, slice_get-map}
+use Rattle.std.proofs.lemmas.List.{map_push}
+use Rattle.std.proofs.lemmas.Option.{slice_get_read, slice_get-map}
 use Rattle.law_sig.specs.Lists.{In}
 use Rattle.law_sig.specs.Lists.In.{here, there}
 use Rattle.law_sig.specs.Signature.{args_of}
@@ -96,13 +97,9 @@ module _ (parts : SigParts) (terms : List Tree) (universe : IsUniverse parts ter
               subst IsSome (sym (own_vector.is.values test within).is) refl;
         }
 
-items_push : (vectors : List (Vec ℕ Global)) (v : Vec ℕ Global) → items_of (vectors ++ v ∷ []) ≡ items_of vectors ++ v.items ∷ []
-items_push [] v = refl
-items_push (w ∷ vectors) v = ap (λ l. w.items ∷ l) (items_push vectors v)
-
 -- what a slice of the terms has at a place
 pub stands_at : (slice terms : List Tree) (at : ℕ) (t : Tree) → slice ≡ terms → at < length slice → t ≡ slice_index_or slice at t → slice_get terms at ≡ Some t
-stands_at slice terms at t same less is = ap (λ l. slice_get l at) (sym same) ∙ slice_get-get_or slice at t less ∙ ap Some (sym is)
+stands_at slice terms at t same less is = ap (λ l. slice_get l at) (sym same) ∙ slice_get_read slice (length slice) at t refl less is
 
 -- one vector more
 pub vectors_next : (parts : SigParts) (old new : List Tree) (terms : List Tree) (at : ℕ) (t : Tree) (vectors more : List (Vec ℕ Global)) (v : Vec ℕ Global)
@@ -110,7 +107,7 @@ pub vectors_next : (parts : SigParts) (old new : List Tree) (terms : List Tree) 
     → AreVectors parts new (take (at + 1) terms) more
 vectors_next parts old new terms at t vectors more v have grows is less is_at e =
     subst (AreVectors parts new (take (at + 1) terms)) (sym e)
-    (subst (Both (IsVector parts new) (take (at + 1) terms)) (sym (items_push vectors v))
+    (subst (Both (IsVector parts new) (take (at + 1) terms)) (sym (map_push (λ (w : Vec ℕ Global). w.items) vectors v))
     (subst (λ l. Both (IsVector parts new) l (items_of vectors ++ v.items ∷ [])) (sym (take_next terms at t less is_at))
     (both_more (IsVector parts new) (take at terms) (items_of vectors) t v.items
     (both_map (IsVector parts old) (IsVector parts new) (λ s y k. vector_stays parts old new s y grows k) (take at terms) (items_of vectors) have) is)))

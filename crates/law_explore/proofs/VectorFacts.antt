@@ -1,8 +1,8 @@
 -- The vectors of terms, and those of applications from those of their arguments.
-use Rattle.std.proofs.Common.{◌≡◌, ℕ, zero, suc, ◌+◌, ◌<◌, ◌^◌, inl, inr, Option, Some, None, IsSome, MatchOption, Result, Ok, Err, IfOk, List, [], ◌∷◌, ◌++◌, length, map, take, slice_get, slice_index_or, option_map, Vec, sym, refl, ap, ap₂, ◌∙◌, subst, arith}
+use Rattle.std.proofs.Common.{◌≡◌, ℕ, zero, suc, ◌+◌, ◌<◌, ◌^◌, inl, inr, Option, Some, None, IsSome, MatchOption, Result, Ok, Err, IfOk, List, [], ◌∷◌, ◌++◌, length, take, slice_get, slice_index_or, option_map, Vec, sym, refl, ap, ap₂, ◌∙◌, subst, arith}
 use Rattle.std.specs.declared.alloc.Global.{Global}
 use Rattle.std.proofs.lemmas.Bool.{cases_lt}
-use Rattle.std.proofs.lemmas.List.{length_push, get_or_default}
+use Rattle.std.proofs.lemmas.List.{length_push, map_push, get_or_default}
 use Rattle.std.proofs.lemmas.Option.{slice_get-map, get_or_from_slice_get}
 use Rattle.law_sig.specs.Lists.{In, Each}
 use Rattle.law_sig.specs.WellFormed.{IsWellFormed}
@@ -187,10 +187,6 @@ places_next terms args at t place places more less there both is grows =
 
 -- One argument's id more
 
-map_last : {A B : Type 0} (f : A → B) (xs : List A) (x : A) → map f (xs ++ x ∷ []) ≡ map f xs ++ f x ∷ []
-map_last f [] x = refl
-map_last f (y ∷ xs) x = ap (λ l. f y ∷ l) (map_last f xs x)
-
 pub ids_at_next : (vectors : List (Vec ℕ Global)) (test at d : ℕ) (places : List ℕ) (ids more : List ValueId) (v : Vec ℕ Global) (slice : List ℕ) → Each (IsRead vectors test) places
     → ids ≡ ids_at vectors test (take at places) → at < length places → v ≡ slice_index_or vectors (slice_index_or places at 0) v → slice ≡ v.items
     → more ≡ ids ++ record { 0 = slice_index_or slice test d } ∷ [] → more ≡ ids_at vectors test (take (at + 1) places)
@@ -202,5 +198,5 @@ ids_at_next vectors test at d places ids more v slice reads so_far less is own g
     let items : slice ≡ read.vector.items = own ∙ ap (λ (w : Vec ℕ Global). w.items) v_is in
     let id : slice_index_or slice test d ≡ slice_index_or (slice_index_or (items_of vectors) p []) test 0
     = ap (λ l. slice_index_or l test d) items ∙ get_or_default read.vector.items test d 0 read.within ∙ ap (λ l. slice_index_or l test 0) (sym (vector_there vectors p read.vector read.there)) in
-    grows ∙ ap₂ (λ l n. l ++ record { 0 = n } ∷ []) so_far id ∙ sym (map_last (id_at vectors test) (take at places) p)
+    grows ∙ ap₂ (λ l n. l ++ record { 0 = n } ∷ []) so_far id ∙ sym (map_push (id_at vectors test) (take at places) p)
     ∙ ap (ids_at vectors test) (sym (take_next places at p less there))

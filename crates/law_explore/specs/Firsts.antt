@@ -1,5 +1,5 @@
 -- Items of a list that are the same, by the first place of each.
-use Rattle.std.specs.Prelude.{◌≡◌, ℕ, ◌<◌, ◌≤◌, List, length, if◌then◌else◌, Option, Some, slice_get, MatchOption, Vec}
+use Rattle.std.specs.Prelude.{◌≡◌, ℕ, ◌<◌, ◌≤◌, List, length, if◌then◌else◌, Some, slice_get, MatchOption, Vec}
 use Rattle.std.specs.declared.alloc.Global.{Global}
 use Rattle.law_test.specs.Words.{same_items, Finds}
 
