@@ -1,4 +1,4 @@
-ghost use Rattle.std.specs.Prelude.{◌≡◌, map, IfOk};
+ghost use Rattle.std.specs.Prelude.{map, IfOk};
 ghost use Rattle.indexmap.specs.IndexMap.{get};
 ghost use Rattle.law_test.specs.Words.{same_items};
 ghost use Rattle.law_explore.specs.Firsts.{AreFirsts, IsNoted};

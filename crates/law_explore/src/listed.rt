@@ -1,4 +1,4 @@
-ghost use Rattle.std.specs.Prelude.{◌≤◌, IfOk, IfErr, IsTrue};
+ghost use Rattle.std.specs.Prelude.{◌≤◌, IfOk, IfErr};
 ghost use Rattle.law_sig.specs.Tests.{assignments};
 ghost use Rattle.law_value.specs.Values.{Grows};
 ghost use Rattle.law_gen.specs.Draws.{pools_by};
