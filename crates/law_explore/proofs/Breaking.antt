@@ -4,20 +4,20 @@ use Rattle.std.specs.Result.{IsErrAnd}
 use Rattle.std.proofs.lemmas.Bool.{cases_lt}
 use Rattle.std.proofs.lemmas.Option.{slice_get-get_or}
 use Rattle.law_sig.specs.Lists.{Each}
-use Rattle.law_sig.specs.Tests.{test_count, Agrees}
+use Rattle.law_sig.specs.Tests.{Agrees}
 use Rattle.law_sig.specs.declared.tree.Tree.{Tree}
 use Rattle.law_sig.specs.declared.parts.Equation.{Equation}
 use Rattle.law_sig.specs.declared.parts.SigParts.{SigParts}
 use Rattle.law_value.specs.declared.bank.ValueId.{ValueId}
 use Rattle.law_value.specs.Values.{IsShared, tree_of, Grows}
-use Rattle.law_pool.specs.Table.{PoolTable, IsFor, pools_of}
 use Rattle.law_gen.specs.Draws.{pools_by}
+use Rattle.law_test.specs.Values.{IsValue, tests_by, val_by}
+use Rattle.law_test.proofs.Testing.{value_stays}
 use Rattle.law_explore.specs.declared.refusal.ExploreErr.{ExploreErr}
 use Rattle.law_explore.specs.declared.refusal.ExploreErr.TheVariants as err
 use Rattle.law_explore.specs.Refusals.{Refusal, IsFirstAnswer, Breaks, HasBrokenBackground, IsTold}
 use Rattle.law_explore.specs.Refusals.Breaks.{left_over, right_over, differs}
-use Rattle.law_explore.specs.Values.{ArePools, IsValue, IsLacking, HoldsAt, tests_by, val_by}
-use Rattle.law_explore.proofs.Testing.{value_stays}
+use Rattle.law_explore.specs.Values.{IsLacking, HoldsAt}
 use Rattle.law_explore.proofs.LawFacts.{some_is}
 
 -- what follows from what an error tells, it tells too
@@ -34,11 +34,6 @@ pub handed_on : (parts : SigParts) (P Q : Refusal → Type 0) {T : Type 0} (r : 
     → IsErrAnd r (λ y. y ≡ x) → IsTold parts P x → IfErr r (IsTold parts Q)
 handed_on parts P Q (Ok y) x f h told = absurd h
 handed_on parts P Q (Err y) x f h told = subst (IsTold parts Q) (sym h) (told_on parts P Q f x told)
-
--- the number of tests
-pub count_is : (parts : SigParts) (bank : List Tree) (table : PoolTable) (n : ℕ) → ArePools parts bank table
-    → ((own : SigParts) (b : List Tree) → IsFor own table → n ≡ test_count own (pools_of b table.ids)) → n ≡ tests_by parts
-count_is parts bank table n p is = is parts bank p.fits ∙ ap (test_count parts) p.are
 
 -- One equation at a test
 

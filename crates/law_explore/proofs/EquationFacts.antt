@@ -8,14 +8,14 @@ use Rattle.law_sig.specs.declared.parts.Equation.{Equation}
 use Rattle.law_explore.specs.Rows.{each_below}
 use Rattle.law_explore.specs.Equations.{equation_of, equation_at}
 
-pub each_below_more : {A : Type 0} (n : ℕ) (f : ℕ → List A) → each_below (n + 1) f ≡ each_below n f ++ f n
+each_below_more : {A : Type 0} (n : ℕ) (f : ℕ → List A) → each_below (n + 1) f ≡ each_below n f ++ f n
 each_below_more n f = rw add-one refl
 
 -- the equation where the first place is another one
 abbrev pub equation_if : Bool → Tree → Tree → List Equation
 equation_if same left right = if same then [] else record { left = left; right = right } ∷ []
 
-pub test_false : (first at : ℕ) (b : Bool) → (first == at) ≡ b → (first ≡ at → ⊥) → b ≡ false
+test_false : (first at : ℕ) (b : Bool) → (first == at) ≡ b → (first ≡ at → ⊥) → b ≡ false
 test_false first at true e other = absurd (other (eqb-true first at e))
 test_false first at false e other = refl
 

@@ -6,7 +6,8 @@ use Rattle.std.proofs.Math.Path.{subst₂}
 use Rattle.std.proofs.lemmas.List.{length_push}
 use Rattle.std.proofs.lemmas.Option.{slice_get-map}
 use lib.Pointwise.{bytes_decides}
-use Rattle.law_explore.specs.Firsts.{IsFirstSame, AreFirsts, same_items, IsNoted, KnowsBefore}
+use Rattle.law_test.specs.Words.{same_items, Finds}
+use Rattle.law_explore.specs.Firsts.{IsFirstSame, AreFirsts, IsNoted, KnowsBefore}
 
 -- the first places of the vectors before a place
 pub record FirstsTo (vectors : List (List ℕ)) (at : ℕ) (firsts : List ℕ) : Type 0 where
@@ -41,8 +42,8 @@ module _ (vectors : List (List ℕ)) (at : ℕ) where
   ]
   stays (Some first) items known other = (let less = known.0 in omega arith, known.1, known.2)
 
-  module _ (old new : Vec ℕ Global → Option ℕ) (v : Vec ℕ Global) (first : ℕ) (here : slice_get vectors at ≡ Some v.items) where
-    abbrev pub Step : Type 0
+  module _ (old new : Finds) (v : Vec ℕ Global) (first : ℕ) (here : slice_get vectors at ≡ Some v.items) where
+    abbrev Step : Type 0
     Step = KnowsBefore vectors (at + 1) new × IsFirstSame vectors at first
 
     noted_new : None_before at v.items → first ≡ at → ((w : Vec ℕ Global) → new w ≡ (if same_items v w then Some at else old w)) → KnowsBefore vectors at old → Step
@@ -83,7 +84,7 @@ module _ (vectors : List (List ℕ)) (at : ℕ) where
       },
     )
 
-    pub noted : KnowsBefore vectors at old → IsNoted old new v at first → Step
+    noted : KnowsBefore vectors at old → IsNoted old new v at first → Step
     noted known is = by (old v) (known v) is
       where
         by : (o : Option ℕ) → MatchOption o (None_before at v.items) (First_before at v.items)
@@ -93,7 +94,7 @@ module _ (vectors : List (List ℕ)) (at : ℕ) where
         by (Some place) found h = noted_again place found h.0 h.1 known
 
 -- one vector more
-pub one_more : (vectors : List (List ℕ)) (at : ℕ) (old new : Vec ℕ Global → Option ℕ) (v : Vec ℕ Global) (first : ℕ) (firsts more : List ℕ)
+one_more : (vectors : List (List ℕ)) (at : ℕ) (old new : Finds) (v : Vec ℕ Global) (first : ℕ) (firsts more : List ℕ)
     → slice_get vectors at ≡ Some v.items → KnowsBefore vectors at old → FirstsTo vectors at firsts → IsNoted old new v at first → more ≡ firsts ++ first ∷ []
     → KnowsBefore vectors (at + 1) new × FirstsTo vectors (at + 1) more
 one_more vectors at old new v first firsts more here known so_far is grows =
@@ -110,7 +111,7 @@ one_more vectors at old new v first firsts more here known so_far is grows =
 pub none_yet : (vectors : List (List ℕ)) → FirstsTo vectors 0 []
 none_yet vectors = record { so_many = refl; each = λ k f e. absurd (let h : ⊥ = cc in h) }
 
-pub finds_none : (vectors : List (List ℕ)) (found : Vec ℕ Global → Option ℕ) → ((v : Vec ℕ Global) → found v ≡ None) → KnowsBefore vectors 0 found
+pub finds_none : (vectors : List (List ℕ)) (found : Finds) → ((v : Vec ℕ Global) → found v ≡ None) → KnowsBefore vectors 0 found
 finds_none vectors found none v =
     subst (λ o. MatchOption o (None_before vectors 0 0 v.items) (First_before vectors 0 0 v.items)) (sym (none v)) (λ k less e. absurd (omega arith))
 
@@ -119,7 +120,7 @@ pub all_firsts : (vectors : List (List ℕ)) (at : ℕ) (firsts : List ℕ) → 
 all_firsts vectors at firsts end so_far = record { one_each = so_far.so_many ∙ end; each = so_far.each }
 
 -- one vector more, where the vectors are taken out of their list one by one
-pub one_taken : (all yielded rest left : List (Vec ℕ Global)) (v : Vec ℕ Global) (at : ℕ) (old new : Vec ℕ Global → Option ℕ) (first : ℕ) (firsts more : List ℕ)
+pub one_taken : (all yielded rest left : List (Vec ℕ Global)) (v : Vec ℕ Global) (at : ℕ) (old new : Finds) (first : ℕ) (firsts more : List ℕ)
     → yielded ++ rest ≡ all → rest ≡ v ∷ left → at ≡ length firsts
     → KnowsBefore (map (λ w. w.items) all) (length yielded) old → FirstsTo (map (λ w. w.items) all) (length yielded) firsts → IsNoted old new v at first → more ≡ firsts ++ first ∷ []
     → ((yielded ++ v ∷ []) ++ left ≡ all) × KnowsBefore (map (λ w. w.items) all) (length (yielded ++ v ∷ [])) new × FirstsTo (map (λ w. w.items) all) (length (yielded ++ v ∷ [])) more

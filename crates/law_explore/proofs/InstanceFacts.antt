@@ -34,7 +34,7 @@ use Rattle.law_explore.proofs.SchemaFacts.{IsSchema, AreLevels, levels_are}
 -- Schemas of terms
 
 -- the schema of a schema is the schema
-pub schema_twice : (t : Tree) → schema_of (schema_of t) ≡ schema_of t
+schema_twice : (t : Tree) → schema_of (schema_of t) ≡ schema_of t
 schema_twice = tree_induct (λ t. schema_of (schema_of t) ≡ schema_of t)
     (λ s i. ap schema_of (schema-Var s i) ∙ schema-Var s 0 ∙ sym (schema-Var s i))
     (λ f args have. ap schema_of (schema-App f args) ∙ schema-App f (map schema_of args) ∙ ap (App f) (all args have) ∙ sym (schema-App f args))
@@ -44,7 +44,7 @@ schema_twice = tree_induct (λ t. schema_of (schema_of t) ≡ schema_of t)
     all (t ∷ ts) have = ap₂ ◌∷◌ have.0 (all ts have.1)
 
 -- the schema of a bounded term is bounded
-pub schema_bounded : (parts : SigParts) (t : Tree) → is_bounded parts t ≡ true → is_bounded parts (schema_of t) ≡ true
+schema_bounded : (parts : SigParts) (t : Tree) → is_bounded parts t ≡ true → is_bounded parts (schema_of t) ≡ true
 schema_bounded parts = tree_induct (λ t. is_bounded parts t ≡ true → is_bounded parts (schema_of t) ≡ true)
     (λ s i e. let below = ltb-true i (vars_at parts s) (sym (bounded-Var parts s i) ∙ e) in
     ap (is_bounded parts) (schema-Var s i) ∙ bounded-Var parts s 0 ∙ lt-ltb 0 (vars_at parts s) (omega arith))

@@ -7,11 +7,11 @@ use Rattle.law_explore.specs.Rows.{each_below, crossed}
 use Rattle.law_explore.specs.Listing.{level, levels_to}
 
 -- one level more
-pub levels_more : (parts : SigParts) (n : ℕ) → levels_to parts (n + 1) ≡ levels_to parts n ++ level parts (levels_to parts n) (n + 1) ∷ []
+levels_more : (parts : SigParts) (n : ℕ) → levels_to parts (n + 1) ≡ levels_to parts n ++ level parts (levels_to parts n) (n + 1) ∷ []
 unfolding levels_to
 levels_more parts n = rw add-one refl
 
-pub levels_none : (parts : SigParts) → levels_to parts 0 ≡ [] ∷ []
+levels_none : (parts : SigParts) → levels_to parts 0 ≡ [] ∷ []
 unfolding levels_to
 levels_none parts = refl
 

@@ -7,15 +7,9 @@ pub mod SchemaFacts
 pub mod FirstFacts
 pub mod EquationFacts
 pub mod LawFacts
-pub mod Positions
 pub mod InstanceFacts
-pub mod BothFacts
-pub mod Testing
 pub mod Breaking
-pub mod PoolFacts
-pub mod Places
 pub mod VectorFacts
-pub mod WordFacts
 pub mod KnownFacts
 pub mod VectorsTell
 pub mod RefusalFacts

@@ -12,6 +12,7 @@ use Rattle.law_laws.proofs.Coverage.{covers}
 use Rattle.law_laws.proofs.ListFacts.{each_map}
 use Rattle.law_value.specs.Values.{IsShared}
 use Rattle.law_gen.specs.Draws.{pools_by}
+use Rattle.law_test.proofs.BothFacts.{both_long}
 use Rattle.law_explore.specs.Universe.{IsUniverse}
 use Rattle.law_explore.specs.Firsts.{AreFirsts}
 use Rattle.law_explore.specs.Equations.{equations}
@@ -19,7 +20,6 @@ use Rattle.law_explore.specs.Refusals.{HasSmallValues}
 use Rattle.law_explore.specs.Values.{IsVector, AreVectors, items_of}
 use Rattle.law_sig.specs.Laws.{IsBackgroundTrue}
 use Rattle.law_explore.specs.LawList.{AreLaws, IsLawListOf}
-use Rattle.law_explore.proofs.BothFacts.{both_long}
 use Rattle.law_explore.proofs.LawFacts.{equations_are, has_least}
 use Rattle.law_explore.proofs.VectorsTell.{own_vector, vectors_are, vectors_tell, all_defined}
 

@@ -34,13 +34,13 @@ limit_kept limit n m o e some = by (cases_lt limit n)
 
 -- Questions without an answer
 
-pub not_many_assignments : (parts : SigParts) → assignments parts ≤ 4096 → (r : Refusal) → HasManyAssignments parts r → ⊥
+not_many_assignments : (parts : SigParts) → assignments parts ≤ 4096 → (r : Refusal) → HasManyAssignments parts r → ⊥
 not_many_assignments parts few r h = let more = h.1 in omega arith
 
-pub not_many_terms : (parts : SigParts) (terms : ℕ) → term_count parts ≤ terms → (r : Refusal) → HasManyTerms parts terms r → ⊥
+not_many_terms : (parts : SigParts) (terms : ℕ) → term_count parts ≤ terms → (r : Refusal) → HasManyTerms parts terms r → ⊥
 not_many_terms parts terms few r h = let more = h.1 in omega arith
 
-pub not_large : (parts : SigParts) → HasSmallValues parts → (r : Refusal) → HasLargeValue parts r → ⊥
+not_large : (parts : SigParts) → HasSmallValues parts → (r : Refusal) → HasLargeValue parts r → ⊥
 not_large parts small r h =
     let first = h.3 in
     let (v, v_in, large) = first.first.large in
@@ -49,7 +49,7 @@ not_large parts small r h =
     let bound : node_count v ≤ 4096 = of_each (λ v. node_count v ≤ 4096) v_in values in
     omega arith
 
-pub not_broken : (parts : SigParts) → IsBackgroundTrue parts (pools_by parts) → (r : Refusal) → HasBrokenBackground parts (pools_by parts) r → ⊥
+not_broken : (parts : SigParts) → IsBackgroundTrue parts (pools_by parts) → (r : Refusal) → HasBrokenBackground parts (pools_by parts) r → ⊥
 not_broken parts holds r h =
     let breaks = h.answer in
     agrees_not parts (h.at + 1) breaks.equation (of_each (HoldsAll parts) (at_place breaks.equation parts.settings.background h.at breaks.there) holds) r breaks.breaks
@@ -57,7 +57,7 @@ not_broken parts holds r h =
 none_lacks : (parts : SigParts) (pools : Pools) (t : Tree) → IsDefined parts pools t → (r : Refusal) → LacksValue parts pools t r → ⊥
 none_lacks parts pools t defined r lacks = absurd (true≢false (sym (subst IsSome lacks.lacks (defined lacks.test lacks.within))))
 
-pub not_lacking : (parts : SigParts) → ((sort : SortId) (t : Tree) → InU parts sort t → IsDefined parts (pools_by parts) t) → (r : Refusal) → HasLackingTerm parts (pools_by parts) r → ⊥
+not_lacking : (parts : SigParts) → ((sort : SortId) (t : Tree) → InU parts sort t → IsDefined parts (pools_by parts) t) → (r : Refusal) → HasLackingTerm parts (pools_by parts) r → ⊥
 not_lacking parts defined r h = none_lacks parts (pools_by parts) h.term (defined h.sort h.term h.bounded) r h.lacks
 
 -- The first refusal, where it is that of each question in turn

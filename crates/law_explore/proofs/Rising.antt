@@ -10,7 +10,7 @@ map_in f [] at = elim at [ ]
 map_in f (x ∷ xs) here = (x, here, refl)
 map_in f (x ∷ xs) (there at) = let (z, p, e) = map_in f xs at in (z, there p, e)
 
-pub each_append : {A : Type 0} (P : A → Type 0) (xs ys : List A) → Each P xs → Each P ys → Each P (xs ++ ys)
+each_append : {A : Type 0} (P : A → Type 0) (xs ys : List A) → Each P xs → Each P ys → Each P (xs ++ ys)
 each_append P [] ys h k = k
 each_append P (x ∷ xs) ys h k = (h.0, each_append P xs ys h.1 k)
 

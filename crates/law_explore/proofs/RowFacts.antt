@@ -38,7 +38,7 @@ each_below_rising R (suc n) f own across =
 
 -- Crossed
 
-pub in_crossed : {A : Type 0} (xs : List A) (rows : List (List A)) {row : List A} → In row (crossed xs rows)
+in_crossed : {A : Type 0} (xs : List A) (rows : List (List A)) {row : List A} → In row (crossed xs rows)
     → (x : A) × (rest : List A) × In x xs × In rest rows × (row ≡ x ∷ rest)
 in_crossed [] rows at = elim at [ ]
 in_crossed (x ∷ xs) rows at = elim (in_split (map (λ r. x ∷ r) rows) (crossed xs rows) at) [
@@ -46,11 +46,11 @@ in_crossed (x ∷ xs) rows at = elim (in_split (map (λ r. x ∷ r) rows) (cross
   | inr h ↦ let (y, rest, p, q, e) = in_crossed xs rows h in (y, rest, there p, q, e)
 ]
 
-pub crossed_in : {A : Type 0} {x : A} {xs : List A} (rest : List A) (rows : List (List A)) → In x xs → In rest rows → In (x ∷ rest) (crossed xs rows)
+crossed_in : {A : Type 0} {x : A} {xs : List A} (rest : List A) (rows : List (List A)) → In x xs → In rest rows → In (x ∷ rest) (crossed xs rows)
 crossed_in {A} {x} rest rows here q = in_left _ (in_map (λ (r : List A). x ∷ r) q)
 crossed_in rest rows (there p) q = in_right _ (crossed_in rest rows p q)
 
-pub crossed_rising : {A : Type 0} (R : A → A → Type 0) (xs : List A) (rows : List (List A)) → Rising R xs → Rising (Lex R) rows
+crossed_rising : {A : Type 0} (R : A → A → Type 0) (xs : List A) (rows : List (List A)) → Rising R xs → Rising (Lex R) rows
     → Rising (Lex R) (crossed xs rows)
 crossed_rising R [] rows h k = tt
 crossed_rising {A} R (x ∷ xs) rows h k =

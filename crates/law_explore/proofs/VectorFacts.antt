@@ -1,27 +1,32 @@
 -- The vectors of terms, and those of applications from those of their arguments.
-use Rattle.std.proofs.Common.{◌≡◌, ℕ, zero, suc, ◌+◌, ◌<◌, ◌^◌, inl, inr, Some, None, IsSome, List, [], ◌∷◌, ◌++◌, length, map, take, slice_get, slice_index_or, option_map, Vec, sym, refl, ap, ap₂, ◌∙◌, subst, arith}
+use Rattle.std.proofs.Common.{◌≡◌, ℕ, zero, suc, ◌+◌, ◌<◌, ◌^◌, inl, inr, Option, Some, None, IsSome, MatchOption, Result, Ok, Err, IfOk, List, [], ◌∷◌, ◌++◌, length, take, slice_get, slice_index_or, option_map, Vec, sym, refl, ap, ap₂, ◌∙◌, subst, arith}
 use Rattle.std.specs.declared.alloc.Global.{Global}
 use Rattle.std.proofs.lemmas.Bool.{cases_lt}
-use Rattle.std.proofs.lemmas.List.{length_push, get_or_default}
+use Rattle.std.proofs.lemmas.List.{length_push, map_push, get_or_default}
 use Rattle.std.proofs.lemmas.Option.{slice_get-map, get_or_from_slice_get}
-use Rattle.law_sig.specs.Lists.{Each}
+use Rattle.law_sig.specs.Lists.{In, Each}
 use Rattle.law_sig.specs.WellFormed.{IsWellFormed}
+use Rattle.law_sig.specs.declared.seq.NoMemory.{NoMemory}
+use Rattle.law_sig.specs.declared.tree.SortId.{SortId}
 use Rattle.law_sig.specs.declared.tree.SymId.{SymId}
 use Rattle.law_sig.specs.declared.tree.Tree.{Tree}
-use Rattle.law_sig.specs.declared.tree.Tree.TheVariants.{App}
+use Rattle.law_sig.specs.declared.tree.Tree.TheVariants.{Var, App}
 use Rattle.law_sig.specs.declared.parts.SigParts.{SigParts}
+use Rattle.law_laws.proofs.ListFacts.{each_map}
+use Rattle.law_laws.proofs.TreeFacts.{same_app, var_no_app}
 use Rattle.law_value.specs.declared.bank.ValueId.{ValueId}
 use Rattle.law_value.specs.Values.{AreOf, Grows}
 use Rattle.law_pool.proofs.Reading.{each_at, take_next}
+use Rattle.law_eval.specs.declared.error.EvalErr.{EvalErr}
 use Rattle.law_gen.specs.Draws.{pools_by}
+use Rattle.law_test.specs.Values.{IsTestable, IsValue, Both, applied_value, tests_by, val_by}
+use Rattle.law_test.proofs.BothFacts.{both_more, both_map, both_long}
+use Rattle.law_test.proofs.Testing.{value_stays, values_held, application_value, few_args}
 use Rattle.law_explore.specs.declared.refusal.ExploreErr.{ExploreErr}
 use Rattle.law_explore.specs.Refusals.{LacksValue, IsTold, IsOver}
 use Rattle.law_explore.specs.Refusals.Refusal.{Over}
-use Rattle.law_explore.specs.Values.{IsTestable, IsValue, AreIds, IsVector, Both, Finds, IsPlaced, IsKnown, HasVector, HaveVectors, HasArgsAt, HasKnownArgs, IsRead, IsFound, items_of, id_in, id_at, ids_at, applied_value, tests_by, val_by}
-use Rattle.law_explore.proofs.BothFacts.{both_map, both_long}
-use Rattle.law_explore.proofs.Testing.{value_stays, values_held, application_value, few_args}
+use Rattle.law_explore.specs.Values.{AreIds, IsVector, StandsAt, HasArgsIn, HasArgPlaces, HasVector, IsKnown, HasKnownArgs, HasArgVectors, IsRead, IsMadeIn, items_of, id_in, id_at, ids_at}
 use Rattle.law_explore.proofs.Breaking.{told_on}
-use Rattle.law_explore.proofs.LawFacts.{some_is}
 
 -- One id more
 
@@ -53,7 +58,7 @@ ids_next parts old new t test ids more v are grows is e = subst (AreIds parts ne
     id_is : ℕ → ValueId
     id_is n = record { 0 = n }
 
-pub ids_before : (parts : SigParts) (bank : List Tree) (t : Tree) (test : ℕ) (ids : List ℕ) → AreIds parts bank t test ids → (k : ℕ) → k < test → IsSome (val_by parts k t)
+ids_before : (parts : SigParts) (bank : List Tree) (t : Tree) (test : ℕ) (ids : List ℕ) → AreIds parts bank t test ids → (k : ℕ) → k < test → IsSome (val_by parts k t)
 ids_before parts bank t test ids are k less = subst IsSome (sym (are.values k less).is) refl
 
 -- The vectors at some places
@@ -61,8 +66,8 @@ ids_before parts bank t test ids are k less = subst IsSome (sym (are.values k le
 vector_there : (vectors : List (Vec ℕ Global)) (place : ℕ) (v : Vec ℕ Global) → slice_get vectors place ≡ Some v → slice_index_or (items_of vectors) place [] ≡ v.items
 vector_there vectors place v e = get_or_from_slice_get (items_of vectors) place v.items [] (slice_get-map (λ v. v.items) vectors place ∙ ap (option_map (λ v. v.items)) e)
 
-pub args_values : (parts : SigParts) (bank : List Tree) (vectors : List (Vec ℕ Global)) (test : ℕ) → test < tests_by parts → (args : List Tree) (places : List ℕ)
-    → HaveVectors parts bank vectors args places → Both (IsValue parts bank test) args (ids_at vectors test places)
+args_values : (parts : SigParts) (bank : List Tree) (vectors : List (Vec ℕ Global)) (test : ℕ) → test < tests_by parts → (args : List Tree) (places : List ℕ)
+    → Both (HasVector parts bank vectors) args places → Both (IsValue parts bank test) args (ids_at vectors test places)
 args_values parts bank vectors test less [] [] have = tt
 args_values parts bank vectors test less [] (p ∷ places) have = absurd have
 args_values parts bank vectors test less (t ∷ args) [] have = absurd have
@@ -71,8 +76,8 @@ args_values parts bank vectors test less (t ∷ args) (p ∷ places) have = (
   args_values parts bank vectors test less args places have.1,
 )
 
-pub args_read : (parts : SigParts) (bank : List Tree) (vectors : List (Vec ℕ Global)) (test : ℕ) → test < tests_by parts → (args : List Tree) (places : List ℕ)
-    → HaveVectors parts bank vectors args places → Each (IsRead vectors test) places
+args_read : (parts : SigParts) (bank : List Tree) (vectors : List (Vec ℕ Global)) (test : ℕ) → test < tests_by parts → (args : List Tree) (places : List ℕ)
+    → Both (HasVector parts bank vectors) args places → Each (IsRead vectors test) places
 args_read parts bank vectors test less [] [] have = tt
 args_read parts bank vectors test less [] (p ∷ places) have = absurd have
 args_read parts bank vectors test less (t ∷ args) [] have = absurd have
@@ -90,72 +95,97 @@ vector_stays parts old new t vector grows is = record {
   last = is.last;
 }
 
--- the arguments of an application at a test, in a bank that has grown
+-- the arguments of an application at a test
 pub record HasArgValues (parts : SigParts) (bank : List Tree) (vectors : List (Vec ℕ Global)) (test : ℕ) (term : Tree) (f : SymId) (places : List ℕ) : Type 0 where
   pub read : Each (IsRead vectors test) places
   pub held : AreOf bank (ids_at vectors test places)
+  pub few : length places < 2 ^ 32
   pub value : val_by parts test term ≡ applied_value parts f bank (ids_at vectors test places)
 
-pub arg_values : (parts : SigParts) (old bank : List Tree) (vectors : List (Vec ℕ Global)) (test tests : ℕ) (term : Tree) (f : SymId) (places : List ℕ) → HasArgsAt parts old vectors term f places
-    → Grows old bank → test < tests → tests ≡ tests_by parts → HasArgValues parts bank vectors test term f places
-arg_values parts old bank vectors test tests term f places h grows less count =
-    let within : test < tests_by parts = subst (λ n. test < n) count less in
-    let have : HaveVectors parts bank vectors h.args places = both_map (HasVector parts old vectors) (HasVector parts bank vectors)
-    (λ t p k. record { vector = k.vector; there = k.there; is = vector_stays parts old bank t k.vector.items grows k.is }) h.args places h.have in
-    let values = args_values parts bank vectors test within h.args places have in
+pub arg_values : (parts : SigParts) → IsWellFormed parts → (bank : List Tree) (vectors : List (Vec ℕ Global)) (test : ℕ) (term : Tree) (f : SymId) (args : List Tree) (places : List ℕ)
+    → IsTestable parts term → term ≡ App f args → HasArgVectors parts bank vectors term places → test < tests_by parts → HasArgValues parts bank vectors test term f places
+arg_values parts well bank vectors test term f args places testable is known within =
+    let have = known f args is in
+    let values = args_values parts bank vectors test within args places have in
+    let few = few_args parts well f args (subst (IsTestable parts) is testable) in
+    let long = both_long (HasVector parts bank vectors) args places have in
     record {
-      read = args_read parts bank vectors test within h.args places have;
-      held = values_held parts bank test h.args (ids_at vectors test places) values;
-      value = ap (val_by parts test) h.is ∙ application_value parts bank test f h.args (ids_at vectors test places) values;
+      read = args_read parts bank vectors test within args places have;
+      held = values_held parts bank test args (ids_at vectors test places) values;
+      few = omega arith;
+      value = ap (val_by parts test) is ∙ application_value parts bank test f args (ids_at vectors test places) values;
     }
 
--- an application that is over
-pub lacking_application : (parts : SigParts) (bank : List Tree) (vectors : List (Vec ℕ Global)) (test tests : ℕ) (term : Tree) (f : SymId) (places ids : List ℕ)
-    → HasArgValues parts bank vectors test term f places → applied_value parts f bank (ids_at vectors test places) ≡ None → AreIds parts bank term test ids → test < tests → tests ≡ tests_by parts
+-- what is made of them is the term's value
+pub made_value : (parts : SigParts) (bank new : List Tree) (vectors : List (Vec ℕ Global)) (test : ℕ) (term : Tree) (f : SymId) (places : List ℕ)
+    → HasArgValues parts bank vectors test term f places → (r : Result ValueId EvalErr) → IfOk r (IsMadeIn (applied_value parts f bank (ids_at vectors test places)) new)
+    → IfOk r (IsValue parts new test term)
+made_value parts bank new vectors test term f places values (Ok v) made = record { held = made.held; is = values.value ∙ made.is }
+made_value parts bank new vectors test term f places values (Err e) made = made
+
+-- a term that is over
+pub lacks_value : (parts : SigParts) (bank : List Tree) (test : ℕ) (term : Tree) (ids : List ℕ) → val_by parts test term ≡ None → AreIds parts bank term test ids → test < tests_by parts
     → (e : ExploreErr) → IsOver parts term test e → IsTold parts (LacksValue parts (pools_by parts) term) e
-lacking_application parts bank vectors test tests term f places ids values none are less count =
+lacks_value parts bank test term ids none are within =
     told_on parts (λ r. r ≡ Over term test) (LacksValue parts (pools_by parts) term) (λ r is. record {
       test = test;
       is = is;
-      within = subst (λ n. test < n) count less;
-      lacks = values.value ∙ none;
+      within = within;
+      lacks = none;
       before = ids_before parts bank term test ids are;
     })
 
--- Known arguments
+-- Places of arguments
 
-pub known_found : (parts : SigParts) (bank : List Tree) (found : Finds) (vectors : List (Vec ℕ Global)) (args : List Tree) → Each (IsKnown parts bank found vectors) args → Each (IsFound found) args
-known_found parts bank found vectors [] known = tt
-known_found parts bank found vectors (t ∷ args) known = (λ v e. let k = known.0 v e in (k.0, k.1), known_found parts bank found vectors args known.1)
+pub no_args : (terms : List Tree) (t : Tree) (s : SortId) (i : ℕ) (places : List ℕ) → t ≡ Var s i → HasArgPlaces terms t places
+no_args terms t s i places is f args other = absurd (var_no_app s i f args (sym is ∙ other))
 
-pub known_vectors : (parts : SigParts) (bank : List Tree) (found : Finds) (vectors : List (Vec ℕ Global)) (args : List Tree) (places : List ℕ)
-    → Each (IsKnown parts bank found vectors) args → Both (IsPlaced found) args places → HaveVectors parts bank vectors args places
-known_vectors parts bank found vectors [] [] known both = tt
-known_vectors parts bank found vectors [] (p ∷ places) known both = absurd both
-known_vectors parts bank found vectors (t ∷ args) [] known both = absurd both
-known_vectors parts bank found vectors (t ∷ args) (p ∷ places) known both =
-    let (place, is, have) = known.0 both.0.key both.0.spelled in
-    (subst (HasVector parts bank vectors t) (some_is (sym is ∙ both.0.is)) have, known_vectors parts bank found vectors args places known.1 both.1)
+pub args_placed : (terms : List Tree) (t : Tree) (f : SymId) (args slice : List Tree) → t ≡ App f args → slice ≡ args → (r : Result (List ℕ) NoMemory)
+    → IfOk r (λ places. Both (StandsAt terms) slice places) → IfOk r (λ places. HasArgPlaces terms t places)
+args_placed terms t f args slice is same (Ok places) both = λ g others other.
+    subst (λ ts. Both (StandsAt terms) ts places) (same ∙ (same_app f g args others (sym is ∙ other)).1) both
+args_placed terms t f args slice is same (Err e) both = both
 
-pub args_at : (parts : SigParts) (bank : List Tree) (found : Finds) (vectors : List (Vec ℕ Global)) (term : Tree) (f : SymId) (args : List Tree) (places own : List ℕ)
-    → HasKnownArgs parts bank found vectors term → term ≡ App f args → Both (IsPlaced found) args places → own ≡ places → HasArgsAt parts bank vectors term f own
-args_at parts bank found vectors term f args places own known is both same =
-    subst (HasArgsAt parts bank vectors term f) (sym same)
-    (record { args = args; is = is; have = known_vectors parts bank found vectors args places (known f args is) both })
+pub args_in : (parts : SigParts) (bank terms : List Tree) (vectors : List (Vec ℕ Global)) (t : Tree) → HasKnownArgs parts bank terms vectors t → HasArgsIn terms t
+args_in parts bank terms vectors t known f args is = each_map (IsKnown parts bank terms vectors) (λ s. In s terms) (λ s k. k.there) args (known f args is)
 
-pub few_places : (parts : SigParts) → IsWellFormed parts → (found : Finds) (term : Tree) (f : SymId) (args : List Tree) (places own : List ℕ)
-    → IsTestable parts term → term ≡ App f args → Both (IsPlaced found) args places → own ≡ places → length own < 2 ^ 32
-few_places parts well found term f args places own testable is both same =
-    let few = few_args parts well f args (subst (IsTestable parts) is testable) in
-    let long = both_long (IsPlaced found) args places both in
-    let e = ap length same in
-    omega arith
+known_vectors : (parts : SigParts) (bank terms : List Tree) (vectors : List (Vec ℕ Global)) (args : List Tree) (places : List ℕ)
+    → Each (IsKnown parts bank terms vectors) args → Both (StandsAt terms) args places → Both (HasVector parts bank vectors) args places
+known_vectors parts bank terms vectors [] [] known both = tt
+known_vectors parts bank terms vectors [] (p ∷ places) known both = absurd both
+known_vectors parts bank terms vectors (t ∷ args) [] known both = absurd both
+known_vectors parts bank terms vectors (t ∷ args) (p ∷ places) known both = (known.0.has p both.0, known_vectors parts bank terms vectors args places known.1 both.1)
+
+pub args_at : (parts : SigParts) (bank terms : List Tree) (vectors : List (Vec ℕ Global)) (t : Tree) (places own : List ℕ) → HasKnownArgs parts bank terms vectors t
+    → HasArgPlaces terms t places → own ≡ places → HasArgVectors parts bank vectors t own
+args_at parts bank terms vectors t places own known stand same f args is =
+    subst (Both (HasVector parts bank vectors) args) (sym same) (known_vectors parts bank terms vectors args places (known f args is) (stand f args is))
+
+-- they keep their vectors while the bank grows
+pub args_stay : (parts : SigParts) (old new : List Tree) (vectors : List (Vec ℕ Global)) (t : Tree) (places : List ℕ) → Grows old new → HasArgVectors parts old vectors t places
+    → HasArgVectors parts new vectors t places
+args_stay parts old new vectors t places grows have f args is =
+    both_map (HasVector parts old vectors) (HasVector parts new vectors) (λ s p k. record { vector = k.vector; there = k.there; is = vector_stays parts old new s k.vector.items grows k.is })
+    args places (have f args is)
+
+-- one place more
+pub place_found : (terms : List Tree) (t : Tree) (o : Option ℕ) (place : ℕ) → o ≡ Some place → MatchOption o (In t terms → ⊥) (λ k. StandsAt terms t k) → StandsAt terms t place
+place_found terms t o place is found = subst (λ p. MatchOption p (In t terms → ⊥) (λ k. StandsAt terms t k)) is found
+
+pub always_found : (terms args : List Tree) (at : ℕ) (t : Tree) (o : Option ℕ) → Each (λ s. In s terms) args → at < length args → t ≡ slice_index_or args at t → o ≡ None
+    → MatchOption o (In t terms → ⊥) (λ k. StandsAt terms t k) → ⊥
+always_found terms args at t o all less there is found =
+    let none : In t terms → ⊥ = subst (λ p. MatchOption p (In t terms → ⊥) (λ k. StandsAt terms t k)) is found in
+    none (each_at (λ s. In s terms) args at t all less there)
+
+pub places_next : (terms args : List Tree) (at : ℕ) (t : Tree) (place : ℕ) (places more : List ℕ) → at < length args → t ≡ slice_index_or args at t → Both (StandsAt terms) (take at args) places
+    → StandsAt terms t place → more ≡ places ++ place ∷ [] → Both (StandsAt terms) (take (at + 1) args) more
+places_next terms args at t place places more less there both is grows =
+    subst (Both (StandsAt terms) (take (at + 1) args)) (sym grows)
+    (subst (λ l. Both (StandsAt terms) l (places ++ place ∷ [])) (sym (take_next args at t less there))
+    (both_more (StandsAt terms) (take at args) places t place both is))
 
 -- One argument's id more
-
-map_last : {A B : Type 0} (f : A → B) (xs : List A) (x : A) → map f (xs ++ x ∷ []) ≡ map f xs ++ f x ∷ []
-map_last f [] x = refl
-map_last f (y ∷ xs) x = ap (λ l. f y ∷ l) (map_last f xs x)
 
 pub ids_at_next : (vectors : List (Vec ℕ Global)) (test at d : ℕ) (places : List ℕ) (ids more : List ValueId) (v : Vec ℕ Global) (slice : List ℕ) → Each (IsRead vectors test) places
     → ids ≡ ids_at vectors test (take at places) → at < length places → v ≡ slice_index_or vectors (slice_index_or places at 0) v → slice ≡ v.items
@@ -168,5 +198,5 @@ ids_at_next vectors test at d places ids more v slice reads so_far less is own g
     let items : slice ≡ read.vector.items = own ∙ ap (λ (w : Vec ℕ Global). w.items) v_is in
     let id : slice_index_or slice test d ≡ slice_index_or (slice_index_or (items_of vectors) p []) test 0
     = ap (λ l. slice_index_or l test d) items ∙ get_or_default read.vector.items test d 0 read.within ∙ ap (λ l. slice_index_or l test 0) (sym (vector_there vectors p read.vector read.there)) in
-    grows ∙ ap₂ (λ l n. l ++ record { 0 = n } ∷ []) so_far id ∙ sym (map_last (id_at vectors test) (take at places) p)
+    grows ∙ ap₂ (λ l n. l ++ record { 0 = n } ∷ []) so_far id ∙ sym (map_push (id_at vectors test) (take at places) p)
     ∙ ap (ids_at vectors test) (sym (take_next places at p less there))

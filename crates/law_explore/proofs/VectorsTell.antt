@@ -15,9 +15,10 @@ use Rattle.law_laws.proofs.Orders.{never_before_itself}
 use Rattle.law_value.specs.declared.bank.ValueId.{ValueId}
 use Rattle.law_value.specs.Values.{IsShared, tree_of}
 use Rattle.law_gen.specs.Draws.{pools_by}
+use Rattle.law_test.specs.Values.{Both, tests_by}
 use Rattle.law_explore.specs.Universe.{IsUniverse}
 use Rattle.law_explore.specs.Tells.{Tells}
-use Rattle.law_explore.specs.Values.{IsVector, AreVectors, Both, items_of, id_in, tests_by}
+use Rattle.law_explore.specs.Values.{IsVector, AreVectors, items_of, id_in}
 use Rattle.law_explore.proofs.LawFacts.{some_is}
 use Rattle.law_explore.proofs.RefusalFacts.{same_sort}
 
@@ -33,7 +34,7 @@ vector_in (s ∷ terms) [] t = []
 vector_in (s ∷ terms) (y ∷ rows) t = pick (trees_decided s t) y (vector_in terms rows t)
 
 -- it is in the relation in which the lists are
-pub vector_related : (R : Tree → List ℕ → Type 0) (terms : List Tree) (rows : List (List ℕ)) → Both R terms rows → (t : Tree) → In t terms → R t (vector_in terms rows t)
+vector_related : (R : Tree → List ℕ → Type 0) (terms : List Tree) (rows : List (List ℕ)) → Both R terms rows → (t : Tree) → In t terms → R t (vector_in terms rows t)
 vector_related R [] rows both t at = elim at [ ]
 vector_related R (s ∷ terms) [] both t at = absurd both
 vector_related R (s ∷ terms) (y ∷ rows) both t at = by (trees_decided s t) (in_rest at) (vector_related R terms rows both.1 t)

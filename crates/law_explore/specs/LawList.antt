@@ -1,7 +1,6 @@
 -- What a law list of a signature comes with.
 use Rattle.std.specs.Prelude.{◌≡◌, ℕ, ◌≤◌, List}
-use Rattle.law_sig.specs.Lists.{Each}
-use Rattle.law_sig.specs.Tests.{InU, Pools, assignments, Agrees, IsDefined, IsInBudget}
+use Rattle.law_sig.specs.Tests.{InU, Pools, assignments, IsDefined, IsInBudget}
 use Rattle.law_sig.specs.Counts.{term_count}
 use Rattle.law_sig.specs.Laws.{IsBackgroundTrue, IsLawList, IsCovered}
 use Rattle.law_sig.specs.declared.tree.SortId.{SortId}

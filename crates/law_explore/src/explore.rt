@@ -3,10 +3,10 @@ ghost use Rattle.std.specs.List.{flat_map};
 ghost use Rattle.law_explore.specs.Listing.{variables_of, instances, listing};
 ghost use Rattle.law_explore.specs.Universe.{IsUniverse};
 
-use super::list::push_copies;
 use super::rows::{choices, push_over};
 use super::schemas::{levels, vars_at};
 use law_sig::{NoMemory, Seq, Sig, SortId, Tree};
+use law_test::TermTable;
 use std::alloc::Global;
 
 /// The variables of a sort.
@@ -39,29 +39,39 @@ fn instances(alloc: Global, sig: &Sig, schema: &Tree) -> Result<Seq<Tree>, NoMem
     }
 }
 
+/// Adds copies of these terms at the end.
+fn push_terms(alloc: Global, found: &mut TermTable, terms: &[Tree]) -> Result<(), NoMemory>
+    ensures { OnOk result (found.new ≡ found.old ++ terms.now) }
+{
+    for term in terms {
+        found.push(term.copy(alloc)?)?;
+    }
+    Ok(())
+}
+
 /// Adds the instances of these schemas.
 fn push_instances(
     alloc: Global,
     sig: &Sig,
-    found: &mut Seq<Tree>,
+    found: &mut TermTable,
     schemas: &[Tree],
 ) -> Result<(), NoMemory>
     ensures { OnOk result (found.new ≡ found.old ++ flat_map (instances sig.now) schemas.now) }
 {
     for schema in schemas {
         let terms = instances(alloc, sig, schema)?;
-        push_copies(alloc, found, terms.as_slice())?;
+        push_terms(alloc, found, terms.as_slice())?;
     }
     Ok(())
 }
 
 /// The instances of all schemas up to this weight.
-fn listing(alloc: Global, sig: &Sig, size: u32) -> Result<Seq<Tree>, NoMemory>
+fn listing(alloc: Global, sig: &Sig, size: u32) -> Result<TermTable, NoMemory>
     requires { size ≤ 32 }
     ensures { IfOk result (λ found. found ≡ listing sig.now size) }
 {
     let levels = levels(alloc, sig, size)?;
-    let mut found = Seq::new(alloc);
+    let mut found = TermTable::new(alloc);
     for schemas in levels.as_slice() {
         push_instances(alloc, sig, &mut found, schemas.as_slice())?;
     }
@@ -69,7 +79,7 @@ fn listing(alloc: Global, sig: &Sig, size: u32) -> Result<Seq<Tree>, NoMemory>
 }
 
 /// All terms of a signature's universe, of all sorts, in the order of exploring.
-pub fn universe(alloc: Global, sig: &Sig) -> Result<Seq<Tree>, NoMemory>
+pub fn universe(alloc: Global, sig: &Sig) -> Result<TermTable, NoMemory>
     ensures { IfOk result (λ terms. IsUniverse sig.now terms) }
 {
     listing(alloc, sig, sig.settings().size)

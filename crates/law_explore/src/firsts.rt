@@ -1,13 +1,14 @@
-ghost use Rattle.std.specs.Prelude.{◌≡◌, map, IfOk};
+ghost use Rattle.std.specs.Prelude.{map, IfOk};
 ghost use Rattle.indexmap.specs.IndexMap.{get};
-ghost use Rattle.law_explore.specs.Firsts.{AreFirsts, IsNoted, same_items};
+ghost use Rattle.law_test.specs.Words.{same_items};
+ghost use Rattle.law_explore.specs.Firsts.{AreFirsts, IsNoted};
 
 use indexmap::IndexMap;
 use law_sig::NoMemory;
 use std::alloc::Global;
 
 /// The first place of a vector: the one that is noted, or else this one, which is noted from then on.
-pub fn note(
+fn note(
     places: &mut IndexMap<Vec<u64>, usize>,
     vector: Vec<u64>,
     at: usize,

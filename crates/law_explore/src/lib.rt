@@ -11,9 +11,7 @@ mod named;
 mod refusal;
 mod rows;
 mod schemas;
-mod values;
 mod vectors;
-mod words;
 
 pub use explore::universe;
 pub use firsts::first_same;

@@ -1,6 +1,6 @@
-ghost use Rattle.std.specs.Prelude.{◌≡◌, ◌++◌, ◌∷◌, IfOk, OnOk, map};
+ghost use Rattle.std.specs.Prelude.{◌≡◌, ◌++◌, ◌∷◌, IfOk, OnOk};
 
-use law_sig::{NoMemory, Seq, SymId, Tree};
+use law_sig::{NoMemory, Seq, Tree};
 use std::alloc::Global;
 
 /// Adds copies of these terms at the end.

@@ -1,24 +1,26 @@
-ghost use Rattle.std.specs.Prelude.{◌≤◌, IfOk, IfErr, IsTrue};
+ghost use Rattle.std.specs.Prelude.{◌≤◌, IfOk, IfErr};
 ghost use Rattle.law_sig.specs.Tests.{assignments};
 ghost use Rattle.law_value.specs.Values.{Grows};
 ghost use Rattle.law_gen.specs.Draws.{pools_by};
 ghost use Rattle.law_read.specs.Signature.{IsRawSig};
+ghost use Rattle.law_test.specs.Values.{ArePools};
 ghost use Rattle.law_explore.specs.LawList.{AreLaws, IsLawListOf, OneRefusal, NoneWithin};
 ghost use Rattle.law_explore.specs.Refusals.{IsRefusal, HasLargeValue, HasSmallValues, HasLackingTerm, IsTold};
-ghost use Rattle.law_explore.specs.Values.{ArePools};
 ghost use Rattle.law_explore.specs.Named.{IsListing};
 
+use super::background::check_background;
 use super::explore::universe;
 use super::firsts::first_same;
 use super::laws::equations;
 use super::named::named_list;
 use super::refusal::ExploreErr;
-use super::values::Tester;
+use super::vectors::vectors_of;
 use law_cert::LawList;
-use law_gen::{GenErr, make_pools};
-use law_pool::{Pools, given_pools};
+use law_gen::GenErr;
+use law_pool::Pools;
 use law_read::RawSig;
-use law_sig::{Equation, PoolRule, Seq, Sig, Tree};
+use law_sig::{Equation, Seq, Sig, Tree};
+use law_test::{Tester, pools_of};
 use law_value::ValueBank;
 use std::alloc::Global;
 
@@ -29,42 +31,34 @@ pub struct Listed {
     pub laws: Seq<Equation>,
 }
 
-/// The pools of a signature, given or from its seed.
-pub fn pools_of(alloc: Global, sig: &Sig, bank: &mut ValueBank) -> Result<Pools, ExploreErr>
+/// The pools of a signature, given or from its seed, in which no value is too large.
+fn small_pools(alloc: Global, sig: &Sig, bank: &mut ValueBank) -> Result<Pools, ExploreErr>
     requires { assignments sig.now ≤ 4096 }
     ensures pools { IfOk result (λ pools. ArePools sig.now bank.new pools) }
     ensures small { IfOk result (λ pools. HasSmallValues sig.now) }
     ensures large { IfErr result (IsTold sig.now (HasLargeValue sig.now)) }
     ensures grows { Grows bank.old bank.new }
 {
-    match &sig.settings().pools {
-        PoolRule::Given(_) => Ok(given_pools(alloc, sig, bank)?),
-        PoolRule::Seeded { .. } => match make_pools(alloc, sig, bank) {
-            Ok(pools) => Ok(pools),
-            Err(GenErr::ValueTooLarge { pool, sort }) => Err(ExploreErr::ValueTooLarge {
-                pool,
-                sort,
-            }),
-            Err(GenErr::NoMemory) => Err(ExploreErr::NoMemory),
-        },
+    match pools_of(alloc, sig, bank) {
+        Ok(pools) => Ok(pools),
+        Err(GenErr::ValueTooLarge { pool, sort }) => Err(ExploreErr::ValueTooLarge { pool, sort }),
+        Err(GenErr::NoMemory) => Err(ExploreErr::NoMemory),
     }
 }
 
-impl<'s> Tester<'s> {
-    /// The laws that hold at every test: for each term of the universe that isn't the least of its values, the equation
-    /// with the least.
-    fn laws(&self, bank: &mut ValueBank) -> Result<Seq<Equation>, ExploreErr>
-        requires { ArePools self.now.sig.now bank.old self.now.pools.now }
-        ensures laws { IfOk result (AreLaws self.now.sig.now) }
-        ensures lacks { IfErr result (IsTold self.now.sig.now (HasLackingTerm self.now.sig.now (pools_by self.now.sig.now))) }
-        ensures grows { Grows bank.old bank.new }
-    {
-        let terms = universe(self.alloc, self.sig)?;
-        let vectors = self.vectors(bank, terms.as_slice())?;
-        bank.shared();
-        let firsts = first_same(self.alloc, vectors)?;
-        Ok(equations(self.alloc, terms.as_slice(), firsts.as_slice())?)
-    }
+/// The laws that hold at every test: for each term of the universe that isn't the least of its values, the equation
+/// with the least.
+fn laws_of(tester: &Tester, bank: &mut ValueBank) -> Result<Seq<Equation>, ExploreErr>
+    requires { ArePools tester.now.sig.now bank.old tester.now.pools.now }
+    ensures laws { IfOk result (AreLaws tester.now.sig.now) }
+    ensures lacks { IfErr result (IsTold tester.now.sig.now (HasLackingTerm tester.now.sig.now (pools_by tester.now.sig.now))) }
+    ensures grows { Grows bank.old bank.new }
+{
+    let terms = universe(tester.alloc, tester.sig)?;
+    let vectors = vectors_of(tester, bank, &terms)?;
+    bank.shared();
+    let firsts = first_same(tester.alloc, vectors)?;
+    Ok(equations(tester.alloc, terms.as_slice(), firsts.as_slice())?)
 }
 
 /// The law list of a signature, which covers its universe of at most so many terms, by numbers.
@@ -79,14 +73,14 @@ fn by_numbers(alloc: Global, sig: &Sig, terms: u64) -> Result<Listed, ExploreErr
         return Err(ExploreErr::TooManyTerms);
     };
     let mut bank = ValueBank::new(alloc);
-    let pools = pools_of(alloc, sig, &mut bank)?;
+    let pools = small_pools(alloc, sig, &mut bank)?;
     let tester = Tester {
         alloc,
         sig,
         pools: &pools,
     };
-    tester.check_background(&mut bank)?;
-    let laws = tester.laws(&mut bank)?;
+    check_background(&tester, &mut bank)?;
+    let laws = laws_of(&tester, &mut bank)?;
     let pools = pools.written(alloc, &bank)?;
     Ok(Listed { pools, laws })
 }

@@ -1,4 +1,4 @@
-ghost use Rattle.std.specs.Prelude.{◌≡◌, ◌+◌, ◌++◌, ◌∷◌, ◌<◌, ◌≤◌, ◌^◌, length, map, IfOk, OnOk, IsTrue};
+ghost use Rattle.std.specs.Prelude.{◌≡◌, ◌+◌, ◌++◌, ◌<◌, ◌≤◌, ◌^◌, length, IfOk, OnOk};
 ghost use Rattle.law_sig.specs.Signature.{symbol_at, vars_at, weight_at};
 ghost use Rattle.law_sig.specs.Tests.{is_explored};
 ghost use Rattle.law_sig.specs.declared.tree.Tree.TheViews.{out-Tree};

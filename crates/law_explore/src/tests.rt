@@ -1,9 +1,9 @@
 // The first places of vectors, against a list made by hand, and the tests and terms of signatures.
-use super::listed::pools_of;
 use crate::first_same;
 use law_pool::Pools;
 use law_read::{RawTerm, read_sig, read_term, write_term};
 use law_sig::{Sig, SortId};
+use law_test::pools_of;
 use law_types::{TypeErr, TypeKind, check_sig, raw_term, typed};
 use law_value::ValueBank;
 use std::alloc::Global;

@@ -2,7 +2,7 @@ use Rattle.std.proofs.Common.{rules, arith, length-append, ◌≡◌, length, ma
 use Rattle.std.proofs.lemmas.List.{length-map}
 use Rattle.std.specs.Map.{lookup}
 use Rattle.indexmap.specs.IndexMap.{get}
-use Rattle.law_explore.specs.Firsts.{same_items}
+use Rattle.law_test.specs.Words.{same_items}
 use Rattle.law_explore.proofs.FirstFacts.{FirstsTo, one_taken, none_yet, finds_none, all_firsts}
 use Rattle.law_explore.proofs.firsts.first_same.Goals as goal
 

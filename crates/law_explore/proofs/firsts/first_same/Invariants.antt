@@ -1,6 +1,7 @@
 use Rattle.std.proofs.Common.{◌≡◌, ◌++◌, map, length}
 use Rattle.indexmap.specs.IndexMap.{get}
-use Rattle.law_explore.specs.Firsts.{KnowsBefore, same_items}
+use Rattle.law_test.specs.Words.{same_items}
+use Rattle.law_explore.specs.Firsts.{KnowsBefore}
 use Rattle.law_explore.proofs.FirstFacts.{FirstsTo}
 use Rattle.law_explore.proofs.firsts.first_same.Given as goal
 
