@@ -12,7 +12,7 @@ use Rattle.law_types.specs.declared.errors.TypeKind.{TypeKind}
 use Rattle.law_types.specs.declared.errors.TypeErr.TheVariants as type_err
 use Rattle.law_cert.specs.declared.cert.LawList.{LawList}
 use Rattle.law_cert.specs.Spelling.{list_spelling}
-use Rattle.law_explore.specs.Named.{IsListing}
+use Rattle.law_explore.specs.Named.{IsNamedLawList}
 use Rattle.law_explore.specs.Refusals.{IsRefusal, IsTold}
 use Rattle.law_explore.specs.declared.refusal.ExploreErr.{ExploreErr}
 use Rattle.law_explore.specs.declared.refusal.ExploreErr.TheVariants as explore
@@ -43,7 +43,7 @@ pub record IsLawListText (bytes text : List ℕ) : Type 0 where
   pub parts : SigParts
   pub stated : IsStated bytes lines parts
   pub list : LawList
-  pub listing : IsListing lines parts most_terms list
+  pub listing : IsNamedLawList lines parts most_terms list
   pub printed : text ≡ list_spelling list
 
 -- the bytes spell lines of which this is the first that shows a fault, and its first fault

@@ -41,7 +41,7 @@ abbrev pub HasFewLaws : SigParts → List Equation → Type 0
 HasFewLaws parts laws = length parts.settings.background + length laws < 2 ^ 63
 
 -- the law list of a signature, which covers its universe of at most so many terms, by its names; and the grammar spells it
-pub record IsListing (lines : List RawLine) (parts : SigParts) (terms : ℕ) (list : LawList) : Type 0 where
+pub record IsNamedLawList (lines : List RawLine) (parts : SigParts) (terms : ℕ) (list : LawList) : Type 0 where
   pub pools : Pools
   pub laws : List Equation
   pub list_of : IsLawListOf parts terms pools laws

@@ -6,7 +6,7 @@ ghost use Rattle.law_read.specs.Signature.{IsRawSig};
 ghost use Rattle.law_test.specs.Values.{ArePools};
 ghost use Rattle.law_explore.specs.LawList.{AreLaws, IsLawListOf, OneRefusal, NoneWithin};
 ghost use Rattle.law_explore.specs.Refusals.{IsRefusal, HasLargeValue, HasSmallValues, HasLackingTerm, IsTold};
-ghost use Rattle.law_explore.specs.Named.{IsListing};
+ghost use Rattle.law_explore.specs.Named.{IsNamedLawList};
 
 use super::background::check_background;
 use super::explore::universe;
@@ -89,7 +89,7 @@ fn by_numbers(alloc: Global, sig: &Sig, terms: u64) -> Result<Listed, ExploreErr
 /// lists spells it. Each error but want of memory tells the first cause that there is.
 pub fn plain(alloc: Global, raw: RawSig, sig: &Sig, terms: u64) -> Result<LawList, ExploreErr>
     requires { IsRawSig raw }
-    ensures listed { IfOk result (IsListing raw sig.now terms) }
+    ensures listed { IfOk result (IsNamedLawList raw sig.now terms) }
     ensures refused { IfErr result (IsTold sig.now (IsRefusal sig.now terms)) }
 {
     let Listed { pools, laws } = by_numbers(alloc, sig, terms)?;
