@@ -12,4 +12,3 @@ pub mod Stuck
 pub mod Ends
 pub mod Refusals
 pub mod NoneSpelled
-pub mod FirstFaults

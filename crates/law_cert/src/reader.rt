@@ -1,5 +1,4 @@
 ghost use Rattle.std.specs.Prelude.{◌≡◌, [], ◌∷◌, None, false, IfOk, IfErr, MatchResult};
-ghost use Rattle.law_cert.specs.Readings.{HasReading};
 ghost use Rattle.law_cert.specs.Readers.{IsClosedTo, IsFed, IsOpen, IsReadAs, IsStopped, IsWhole, NotWhole, RefusedBy, Stops};
 
 use crate::cert::Cert;
@@ -92,8 +91,7 @@ impl CertReader {
     }
 
     fn answer(&self) -> Result<(), CertErr>
-        ensures answer { MatchResult result (λ _. IsOpen self.now) (Stops self.now) }
-        ensures reads { HasReading self.now.lines }
+        ensures { MatchResult result (λ _. IsOpen self.now) (Stops self.now) }
     {
         match self.phase {
             Phase::Refused(line) => Err(CertErr::Form { line }),

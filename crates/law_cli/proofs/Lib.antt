@@ -1,4 +1,5 @@
 pub mod TopFacts
+pub mod CertFaults
 pub mod Hearing
 pub mod AnswerFacts
 pub mod Answered
