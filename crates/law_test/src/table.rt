@@ -12,7 +12,7 @@ use std::marker::Model;
 pub struct TermTable {
     alloc: Global,
     terms: Vec<Tree>,
-    places: IndexMap<Vec<u64>, usize>,
+    places: IndexMap<Vec<u8>, usize>,
 }
 
 impl Model for TermTable {
