@@ -12,3 +12,4 @@ pub mod Stuck
 pub mod Ends
 pub mod Refusals
 pub mod NoneSpelled
+pub mod FirstFaults

@@ -29,3 +29,7 @@ StaysStopped = (old new : Heard) (piece : List ℕ) (was : CertErr) → Stops ol
 -- A text with a line without a reading is the spelling of no certificate.
 abbrev pub RefusedIsNone : Type 0
 RefusedIsNone = (text : List ℕ) (number : ℕ) → FirstFault text number → (cert : Cert) → IsCertText cert → cert_spelling cert ≡ text → ⊥
+
+-- One line at most is the first without a reading.
+abbrev pub OneFault : Type 0
+OneFault = (text : List ℕ) (number other : ℕ) → FirstFault text number → FirstFault text other → number ≡ other

@@ -78,10 +78,13 @@ pub record IsOpen (heard : Heard) : Type 0 where
   pub allowed : heard.refused ≡ None
   pub fed : heard.starved ≡ false
 
+-- The piece is read, each line that is finished by then has a reading, and what is left is of one line.
 pub record IsFed (old new : Heard) (piece : List ℕ) : Type 0 where
   pub before : IsOpen old
   pub after : IsOpen new
   pub text : heard_text new ≡ heard_text old ++ piece
+  pub reads : HasReading new.lines
+  pub whole : IsUnbroken new.unfinished
 
 -- the line that the reader names is the one that it keeps
 abbrev pub Stops : Heard → CertErr → Type 0

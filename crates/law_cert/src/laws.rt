@@ -1,4 +1,4 @@
-ghost use Rattle.law_cert.specs.Laws.{OneCert, OneLine, OneList, RefusedIsNone, StaysStopped};
+ghost use Rattle.law_cert.specs.Laws.{OneCert, OneFault, OneLine, OneList, RefusedIsNone, StaysStopped};
 
 /// A text is the spelling of one certificate or law list at most, and bytes of one line.
 pub fn texts_have_one_reading()
@@ -12,7 +12,8 @@ pub fn readers_stay_stopped()
     ensures { StaysStopped }
 {}
 
-/// A text that is refused for a line is the spelling of no certificate.
+/// A text that is refused for a line is the spelling of no certificate, and it is refused for no other line.
 pub fn refused_texts_are_none()
-    ensures { RefusedIsNone }
+    ensures none { RefusedIsNone }
+    ensures fault { OneFault }
 {}

@@ -1,4 +1,6 @@
 ghost use Rattle.std.specs.Prelude.{◌≡◌, [], ◌∷◌, None, false, IfOk, IfErr, MatchResult};
+ghost use Rattle.law_read.specs.Texts.{IsUnbroken};
+ghost use Rattle.law_cert.specs.Readings.{HasReading};
 ghost use Rattle.law_cert.specs.Readers.{IsClosedTo, IsFed, IsOpen, IsReadAs, IsStopped, IsWhole, NotWhole, RefusedBy, Stops};
 
 use crate::cert::Cert;
@@ -65,7 +67,10 @@ impl CertReader {
             return self.answer();
         }
         match self.unfinished.push(byte) {
-            Ok(()) => Ok(()),
+            Ok(()) => {
+                self.reads();
+                Ok(())
+            }
             Err(_) => {
                 self.phase = Phase::Starved;
                 Err(CertErr::NoMemory)
@@ -88,11 +93,23 @@ impl CertReader {
             Err(_) => Phase::Starved,
         };
         self.count = number;
+        self.reads();
+    }
+
+    /// What was read can be completed, and what is left is one line.
+    fn reads(&self)
+        ensures reads { HasReading self.now.lines }
+        ensures whole { IsOpen self.now → IsUnbroken self.now.unfinished }
+    {
+        let _count = self.count;
     }
 
     fn answer(&self) -> Result<(), CertErr>
-        ensures { MatchResult result (λ _. IsOpen self.now) (Stops self.now) }
+        ensures answer { MatchResult result (λ _. IsOpen self.now) (Stops self.now) }
+        ensures reads { HasReading self.now.lines }
+        ensures whole { IsOpen self.now → IsUnbroken self.now.unfinished }
     {
+        self.reads();
         match self.phase {
             Phase::Refused(line) => Err(CertErr::Form { line }),
             Phase::Starved => Err(CertErr::NoMemory),

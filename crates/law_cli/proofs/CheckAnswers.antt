@@ -12,7 +12,7 @@ use Rattle.law_valid.specs.declared.rule.Answer.{Answer}
 use Rattle.law_valid.specs.declared.rule.Answer.TheVariants.{Yes, No, Over}
 use Rattle.law_valid.specs.Certificates.{OneCertAnswer}
 use Rattle.law_valid.specs.Named.{IsValidCert, JudgedCert}
-use Rattle.law_cli.proofs.CertFaults.{one_first_fault}
+use Rattle.law_cert.proofs.FirstFaults.{one_first_fault}
 use Rattle.law_check.specs.Verdicts.{counted}
 use Rattle.law_cli.specs.Printed.{status_text}
 use Rattle.law_cli.specs.Checks.{IsCheckAnswer, IsYesText, law_lines, yes_line}

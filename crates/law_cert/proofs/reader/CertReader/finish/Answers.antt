@@ -15,4 +15,4 @@ returns-then-len-eq0 c = record {
 pub returns-in-Ok-clause-err : goal.returns-in-Ok-clause-err
 returns-in-Ok-clause-err c =
     subst (λ heard. NotWhole heard (error.Form c.saturating_add-line.result)) c.self.view_is
-    (finish_open c.self.inside.phase c.self.inside.count c.saturating_add-line.result c.self.inside.unfinished c.self.invariant (search rules) (λ e. omega arith) (subst IsOpen (sym c.self.view_is) c.in-Ok.ensures))
+    (finish_open c.self.inside.phase c.self.inside.count c.saturating_add-line.result c.self.inside.unfinished c.self.invariant (search rules) (λ e. omega arith) (subst IsOpen (sym c.self.view_is) c.in-Ok.ensures.answer))

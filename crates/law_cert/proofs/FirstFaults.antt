@@ -4,7 +4,7 @@ use Rattle.std.proofs.lemmas.List.{append_assoc, append-nil}
 use Rattle.std.specs.List.{AllByRecursion}
 use Rattle.law_read.specs.Spelling.{text_of}
 use Rattle.law_read.specs.Texts.{IsUnbroken, has_feed, next_number}
-use Rattle.law_read.proofs.Whole.{feed_in, nothing_else, same_line}
+use Rattle.law_read.proofs.Whole.{feed_in, same_line}
 use Rattle.law_cert.specs.Readings.{FaultAt, FaultyLine, FirstFault, HasReading, Unfinished}
 
 abbrev AreUnbroken : List (List ℕ) → Type 0
