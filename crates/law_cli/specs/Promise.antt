@@ -35,7 +35,7 @@ pub record IsTooLong (words : List (List ℕ)) (left_before left_now : Option (L
   pub took : Grows taken_before taken_now (status_text (status.Limit which.Bytes))
 
 -- the words are those of a command, and the source failed before it gave a byte past the limit
-pub record IsUnread (words : List (List ℕ)) (left_before left_now : Option (List ℕ)) : Type 0 where
+pub record IsSourceFault (words : List (List ℕ)) (left_before left_now : Option (List ℕ)) : Type 0 where
   pub asked : Command
   pub words_are : AreWordsOf words asked
   pub within : GaveAtMost left_before left_now (most_bytes asked)
@@ -74,7 +74,7 @@ AsksAtMost words left_before left_now = (asked : Command) → AreWordsOf words a
 abbrev pub Means : List (List ℕ) → Option (List ℕ) → Option (List ℕ) → Taken → Taken → Status → Type 0
 Means words left_before left_now taken_before taken_now status.Usage = IsUsage words taken_before taken_now
 Means words left_before left_now taken_before taken_now (status.Limit which.Bytes) = IsTooLong words left_before left_now taken_before taken_now
-Means words left_before left_now taken_before taken_now status.ReadFault = IsUnread words left_before left_now
+Means words left_before left_now taken_before taken_now status.ReadFault = IsSourceFault words left_before left_now
 Means words left_before left_now taken_before taken_now status.WriteFault = Unit {0}
 Means words left_before left_now taken_before taken_now status.NoMemory = AreWords words
 Means words left_before left_now taken_before taken_now other = IsAnswered words left_before left_now taken_before taken_now other
