@@ -7,22 +7,22 @@ use Rattle.law_read.specs.Texts.{IsUnbroken, has_feed, next_number}
 use Rattle.law_read.proofs.Whole.{feed_in, same_line}
 use Rattle.law_cert.specs.Readings.{FaultAt, FaultyLine, FirstFault, HasReading, Unfinished}
 
-abbrev AreUnbroken : List (List ℕ) → Type 0
+abbrev pub AreUnbroken : List (List ℕ) → Type 0
 AreUnbroken lines = AllByRecursion IsUnbroken lines
 
 -- what is wrong behind the lines that have a reading
-abbrev IsWrong : List (List ℕ) → List ℕ → Type 0
+abbrev pub IsWrong : List (List ℕ) → List ℕ → Type 0
 IsWrong lines left = FaultyLine lines left ⊎ Unfinished lines left
 
 wrong_at : (text : List ℕ) (number : ℕ) → FirstFault text number → FaultAt text number IsWrong
 wrong_at text number (inl f) = record { lines = f.lines; left = f.left; parts = f.parts; whole = f.whole; reads = f.reads; next = f.next; why = inl f.why }
 wrong_at text number (inr f) = record { lines = f.lines; left = f.left; parts = f.parts; whole = f.whole; reads = f.reads; next = f.next; why = inr f.why }
 
-unbroken_behind : (xs ys : List (List ℕ)) → AreUnbroken (xs ++ ys) → AreUnbroken ys
+pub unbroken_behind : (xs ys : List (List ℕ)) → AreUnbroken (xs ++ ys) → AreUnbroken ys
 unbroken_behind [] ys h = h
 unbroken_behind (x ∷ xs) ys h = unbroken_behind xs ys h.1
 
-line_first : (line : List ℕ) (lines : List (List ℕ)) (rest : List ℕ) → text_of (line ∷ lines) ++ rest ≡ line ++ 10 ∷ (text_of lines ++ rest)
+pub line_first : (line : List ℕ) (lines : List (List ℕ)) (rest : List ℕ) → text_of (line ∷ lines) ++ rest ≡ line ++ 10 ∷ (text_of lines ++ rest)
 line_first line lines rest = ap (λ l. l ++ rest) (append_assoc line (10 ∷ []) (text_of lines)) ∙ append_assoc line (10 ∷ text_of lines) rest
 
 one_more : (lines : List (List ℕ)) (line : List ℕ) (more : List (List ℕ)) → lines ++ line ∷ more ≡ (lines ++ line ∷ []) ++ more
@@ -38,22 +38,22 @@ shorter lines line more h = record {
 }
 
 -- nothing is wrong before lines that have a reading
-no_earlier : (lines : List (List ℕ)) (left line : List ℕ) (more : List (List ℕ)) (rest : List ℕ) → IsUnbroken line → left ≡ line ++ 10 ∷ rest
+pub no_earlier : (lines : List (List ℕ)) (left line : List ℕ) (more : List (List ℕ)) (rest : List ℕ) → IsUnbroken line → left ≡ line ++ 10 ∷ rest
     → HasReading (lines ++ line ∷ more) → IsWrong lines left → ⊥
 no_earlier lines left line more rest h e r (inl f) =
     let q = same_line line f.line rest f.behind h f.first.whole (sym e ∙ f.first.parts) in f.stuck (subst (λ l. HasReading (lines ++ l ∷ [])) q.0 (shorter lines line more r))
 no_earlier lines left line more rest h e r (inr u) = let t = feed_in line rest in let g = ap has_feed e in let o = u.open_line in absurd (cc)
 
 -- lines that begin other lines, and what is left behind both
-record Ahead (xs ys : List (List ℕ)) (left right : List ℕ) : Type 0 where
-  more : List (List ℕ)
-  is : ys ≡ xs ++ more
-  text : left ≡ text_of more ++ right
+pub record Ahead (xs ys : List (List ℕ)) (left right : List ℕ) : Type 0 where
+  pub more : List (List ℕ)
+  pub is : ys ≡ xs ++ more
+  pub text : left ≡ text_of more ++ right
 
 longer : (x y : List ℕ) (xs ys : List (List ℕ)) (left right : List ℕ) → x ≡ y → Ahead xs ys left right → Ahead (x ∷ xs) (y ∷ ys) left right
 longer x y xs ys left right e a = record { more = a.more; is = ap (λ l. l ∷ ys) (sym e) ∙ ap (λ l. x ∷ l) a.is; text = a.text }
 
-aligned : (xs ys : List (List ℕ)) (left right : List ℕ) → AreUnbroken xs → AreUnbroken ys → text_of xs ++ left ≡ text_of ys ++ right → Ahead xs ys left right ⊎ Ahead ys xs right left
+pub aligned : (xs ys : List (List ℕ)) (left right : List ℕ) → AreUnbroken xs → AreUnbroken ys → text_of xs ++ left ≡ text_of ys ++ right → Ahead xs ys left right ⊎ Ahead ys xs right left
 aligned [] ys left right h g e = inl (record { more = ys; is = refl; text = e })
 aligned (x ∷ xs) [] left right h g e = inr (record { more = x ∷ xs; is = refl; text = sym e })
 aligned (x ∷ xs) (y ∷ ys) left right h g e =

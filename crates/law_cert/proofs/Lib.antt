@@ -13,3 +13,4 @@ pub mod Ends
 pub mod Refusals
 pub mod NoneSpelled
 pub mod FirstFaults
+pub mod Joined

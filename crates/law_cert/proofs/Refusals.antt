@@ -22,7 +22,7 @@ all_front : (A : Type 0) (P : A → Type 0) (xs ys : List A) → AllByRecursion 
 all_front A P [] ys h = tt
 all_front A P (x ∷ xs) ys h = (h.0, all_front A P xs ys h.1)
 
-reads_unbroken : (lines : List (List ℕ)) → HasReading lines → AllByRecursion IsUnbroken lines
+pub reads_unbroken : (lines : List (List ℕ)) → HasReading lines → AllByRecursion IsUnbroken lines
 reads_unbroken lines h = all_front (List ℕ) IsUnbroken lines h.more (subst (AllByRecursion IsUnbroken) (sym (lines_are h.cert) ∙ h.begins) (all_unbroken h.cert h.spelled))
 
 counts : (l count number : ℕ) → count ≡ min l (2 ^ 64 - 1) → number ≡ min (count + 1) (2 ^ 64 - 1) → number ≡ min (l + 1) (2 ^ 64 - 1)
@@ -67,7 +67,7 @@ closed_stops (Err (error.Form number)) old new byte e h o fed closed =
 closed_stops (Err error.NoMemory) old new byte e h o fed closed = record { kept = h; cause = inr (record { before = o; fault = tt }) }
 
 -- pieces behind pieces
-fault_more : (text more : List ℕ) (number : ℕ) → FaultAt text number FaultyLine → FaultAt (text ++ more) number FaultyLine
+pub fault_more : (text more : List ℕ) (number : ℕ) → FaultAt text number FaultyLine → FaultAt (text ++ more) number FaultyLine
 fault_more text more number f = record {
   lines = f.lines;
   left = f.left ++ more;
@@ -164,7 +164,7 @@ finish_refused (Err (error.Form number)) old new text none nothing fed h = by h
     by (inr a) = inr (subst (λ t. FaultAt t number Unfinished) (fed.text ∙ no_text old text none nothing) a.1)
 
 -- A reader that has stopped answers the same.
-not_open : (old : Heard) (was : CertErr) → Stops old was → IsOpen old → ⊥
+pub not_open : (old : Heard) (was : CertErr) → Stops old was → IsOpen old → ⊥
 not_open old (error.Form number) s o = let a = s.0 in let b = o.allowed in absurd cc
 not_open old error.NoMemory s o = let a = s.0 in let b = o.fed in absurd cc
 

@@ -105,6 +105,16 @@ pub record IsStopped (old new : Heard) (piece : List ℕ) (why : CertErr) : Type
   pub kept : Stops new why
   pub cause : Stops old why ⊎ StopsNow old piece why
 
+-- the first line of the text that has no reading was refused
+pub record IsRefusing (heard : Heard) (text : List ℕ) : Type 0 where
+  pub number : ℕ
+  pub stops : Stops heard (error.Form number)
+  pub fault : FaultAt text number FaultyLine
+
+-- what a reader has that was given this text, in whatever pieces: all of it, or the first line without a reading
+abbrev pub HasHeard : Heard → List ℕ → Type 0
+HasHeard heard text = (IsOpen heard × (heard_text heard ≡ text)) ⊎ IsRefusing heard text
+
 -- The unfinished line is over, and has no reading.
 pub record IsFaulty (old : Heard) (number : ℕ) : Type 0 where
   pub whole : IsUnbroken old.unfinished

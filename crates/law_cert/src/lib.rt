@@ -14,7 +14,9 @@ mod write;
 
 pub use cert::{Cert, Dir, Entry, LawList, Mark, RawBind, RawStep, RawValues, SortTree, TreeLine};
 pub use error::CertErr;
-pub use laws::{readers_stay_stopped, refused_texts_are_none, texts_have_one_reading};
+pub use laws::{
+    pieces_are_one_text, readers_stay_stopped, refused_texts_are_none, texts_have_one_reading,
+};
 pub use reader::{CertReader, read_cert};
 pub use write::{write_cert, write_law, write_list};
 

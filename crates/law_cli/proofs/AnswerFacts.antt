@@ -3,6 +3,9 @@ use Rattle.std.proofs.Common.{◌≡◌, ℕ, List, ◌++◌, Result, Ok, Err, I
 use Rattle.std.specs.Bool.{⊤}
 use Rattle.std.proofs.lemmas.List.{append_assoc}
 use Rattle.law_sig.specs.declared.seq.NoMemory.{NoMemory}
+use Rattle.law_cert.specs.declared.cert.Cert.{Cert}
+use Rattle.law_cert.specs.Readers.{HasHeard, Heard, IsReadAs, IsWhole}
+use Rattle.law_cert.proofs.Joined.{whole_text}
 use Rattle.law_cli.specs.Printed.{status_text}
 use Rattle.law_cli.specs.Answers.{Cause, IsAnswerTo, IsLawListText, IsOneOf}
 use Rattle.law_cli.specs.Checks.{CheckCause, IsCheckAnswer, IsYesText}
@@ -42,3 +45,9 @@ pub check_refused : (Read : List ℕ → Type 0) (s : Status) (made : Result Ans
     → IfOk made (λ (a : Answer). (a.status ≡ s) × (a.text ≡ status_text s)) → IfOk made (λ (a : Answer). (bytes : List ℕ) → Read bytes → IsCheckAnswer bytes a.status a.text)
 check_refused Read s (Err e) cause is = tt
 check_refused Read s (Ok a) cause is = λ bytes read. by_line (IsYesText bytes) (CheckCause bytes) s a (λ h. h) (cause bytes read) is
+
+-- the answer to a certificate is that to the text that a reader was given
+pub whole_answer : (r : Result Answer NoMemory) (heard : Heard) (cert : Cert) → IsWhole heard cert → IfOk r (λ (a : Answer). (bytes : List ℕ) → IsReadAs bytes cert → IsCheckAnswer bytes a.status a.text)
+    → IfOk r (λ (a : Answer). (bytes : List ℕ) → HasHeard heard bytes → IsCheckAnswer bytes a.status a.text)
+whole_answer (Err e) heard cert w h = tt
+whole_answer (Ok a) heard cert w h = λ bytes has. h bytes (whole_text heard cert bytes w has)

@@ -2,14 +2,14 @@
 use Rattle.std.proofs.Common.{◌≡◌, ◌≢◌, ◌⊎◌, inl, inr, Option, Some, None, MatchOption, Result, Ok, Err, IfOk, ℕ, ◌+◌, List, [], ◌∷◌, get_or, if◌then◌else◌, ◌==◌, refl, sym, ap, ◌∙◌, subst}
 use Rattle.law_sig.specs.declared.seq.NoMemory.{NoMemory}
 use Rattle.law_io.specs.Takings.{Taken, Grows}
-use Rattle.law_cert.specs.Readers.{Heard}
+use Rattle.law_cert.specs.Readers.{HasHeard, Heard}
 use Rattle.law_cli.specs.Commands.{AreOtherWords, AreWordsOf, IsOtherWord, most_bytes, word_of}
 use Rattle.law_cli.specs.Answers.{IsAnswerTo}
 use Rattle.law_cli.specs.Checks.{IsCheckAnswer}
 use Rattle.law_cli.specs.Laws.{IsAnswer, IsAnswerFrom}
 use Rattle.law_cli.specs.Printed.{IsPrinted}
 use Rattle.law_cli.specs.Promise.{AsksAtMost, IsAnswered, Means}
-use Rattle.law_cli.specs.Reading.{GaveAtMost, HasHeard, IsRead, StandsFor, WasRead}
+use Rattle.law_cli.specs.Reading.{GaveAtMost, IsRead, StandsFor, WasRead}
 use Rattle.law_cli.specs.declared.command.Command.{Command}
 use Rattle.law_cli.specs.declared.command.Command.TheVariants as command
 use Rattle.law_cli.specs.declared.pieces.Pieces.{Pieces}

@@ -1,5 +1,4 @@
 pub mod TopFacts
-pub mod Hearing
 pub mod AnswerFacts
 pub mod Answered
 pub mod OneAnswer

@@ -1,9 +1,7 @@
 -- What reading the whole input gives.
-use Rattle.std.specs.Prelude.{◌≡◌, ℕ, suc, ◌≤◌, ◌⊎◌, List, length, Option}
+use Rattle.std.specs.Prelude.{◌≡◌, ℕ, suc, ◌≤◌, List, length, Option}
 use Rattle.std.specs.Io.KnownBytes.{Consumes, IsAtEnd}
-use Rattle.law_cert.specs.declared.error.CertErr.TheVariants as unread
-use Rattle.law_cert.specs.Readers.{Heard, IsOpen, Stops, heard_text}
-use Rattle.law_cert.specs.Readings.{FaultAt, FaultyLine}
+use Rattle.law_cert.specs.Readers.{HasHeard}
 use Rattle.law_cli.specs.Commands.{most_bytes}
 use Rattle.law_cli.specs.declared.command.Command.{Command}
 use Rattle.law_cli.specs.declared.command.Command.TheVariants as command
@@ -27,16 +25,6 @@ pub record GaveAtMost (before now : Option (List ℕ)) (most : ℕ) : Type 0 whe
   pub bytes : List ℕ
   pub consumed : Consumes before now bytes
   pub count : length bytes ≤ most
-
--- the first line of the text that has no reading was refused
-pub record IsRefusing (heard : Heard) (text : List ℕ) : Type 0 where
-  pub number : ℕ
-  pub stops : Stops heard (unread.Form number)
-  pub fault : FaultAt text number FaultyLine
-
--- what a reader of certificates has once it was given this text: all of it, or the first line without a reading
-abbrev pub HasHeard : Heard → List ℕ → Type 0
-HasHeard heard text = (IsOpen heard × (heard_text heard ≡ text)) ⊎ IsRefusing heard text
 
 -- what stands for the text that was read: `plain` keeps it, and `check` what a reader of certificates has
 abbrev pub StandsFor : Command → Pieces → List ℕ → Type 0

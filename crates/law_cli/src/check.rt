@@ -1,9 +1,8 @@
 ghost use Rattle.std.specs.Prelude.{◌≡◌, ℕ, List, [], ◌∷◌, ◌++◌, IfOk, OnOk};
 ghost use Rattle.std.specs.List.{AllByRecursion};
 ghost use Rattle.law_cert.specs.Certificates.{IsCertText, IsEntry};
-ghost use Rattle.law_cert.specs.Readers.{IsReadAs};
+ghost use Rattle.law_cert.specs.Readers.{HasHeard, IsReadAs};
 ghost use Rattle.law_cli.specs.Checks.{IsCheckAnswer, law_lines, yes_line};
-ghost use Rattle.law_cli.specs.Reading.{HasHeard};
 
 use crate::plain::{Answer, refusal};
 use crate::status::{FormKind, Status, put_count, put_last_count};

@@ -1,5 +1,6 @@
 ghost use Rattle.std.specs.Prelude.{◌≡◌, ℕ, ◌++◌, [], List, OnOk};
-ghost use Rattle.law_cli.specs.Reading.{HasHeard, StandsFor};
+ghost use Rattle.law_cert.specs.Readers.{HasHeard};
+ghost use Rattle.law_cli.specs.Reading.{StandsFor};
 ghost use Rattle.law_cli.specs.declared.command.Command.{Command};
 
 use crate::command::Command;
