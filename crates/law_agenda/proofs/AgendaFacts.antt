@@ -7,9 +7,9 @@ use Rattle.law_sig.specs.declared.tree.Tree.{Tree}
 use Rattle.law_sig.specs.declared.parts.SigParts.{SigParts}
 use Rattle.law_laws.proofs.ListFacts.{in_none, in_left}
 use Rattle.law_laws.proofs.Orders.{never_before_itself, before_chain}
-use Rattle.law_valid.specs.Expected.{IsFirstAbove, IsSpent}
-use Rattle.law_valid.specs.Schemas.{IsConsidered}
-use Rattle.law_valid.specs.Judged.{Block, IsBlockSpent, IsNextTerm}
+use Rattle.law_sig.specs.Expected.{IsFirstAbove, IsSpent}
+use Rattle.law_sig.specs.Schemas.{IsConsidered}
+use Rattle.law_valid.specs.Order.{Block, IsBlockSpent, IsNextTerm, Progress, at_start, after_killed, IsSchemaNext, AreSpent, IsTermNext, IsTermSpent, IsSchemaTurn, IsTermTurn}
 use Rattle.law_agenda.specs.declared.agenda.Agenda.{Agenda}
 use Rattle.law_agenda.specs.declared.agenda.Going.{Going}
 use Rattle.law_agenda.specs.declared.candidates.Candidate.{Candidate}
@@ -17,15 +17,14 @@ use Rattle.law_agenda.specs.declared.candidates.Candidate.TheVariants as candida
 use Rattle.law_agenda.specs.declared.shelves.Spread.{Spread}
 use Rattle.law_agenda.specs.declared.stores.Store.{Store}
 use Rattle.law_agenda.specs.Candidates.{IsCandidate}
-use Rattle.law_agenda.specs.Progress.{Progress, at_start, after_killed, IsSchemaNext, AreSpent, IsTermNext, IsTermSpent}
 use Rattle.law_agenda.specs.Stores.{IsStore, IsItem, IsFitting}
-use Rattle.law_agenda.specs.Agendas.{IsReady, IsStage}
+use Rattle.law_agenda.specs.Agendas.{IsReady, IsStage, IsAt}
 use Rattle.law_agenda.proofs.Staging.{first_after, spent_after}
 use Rattle.std.proofs.Math.Nat.{eq-or-lt_of_le}
 use Rattle.law_sig.specs.WellFormed.{IsWellFormed}
 use Rattle.law_laws.proofs.TreeFacts.{weight-Var, weight-App}
 use Rattle.law_laws.proofs.Descents.{weighs_something}
-use Rattle.law_valid.specs.Schemas.IsConsidered.{variable, application}
+use Rattle.law_sig.specs.Schemas.IsConsidered.{variable, application}
 use Rattle.law_agenda.specs.Stages.{kind, FromStage}
 
 -- the first one is one alone
@@ -48,6 +47,26 @@ not_both parts lives (Some block) t spent f = spent t f.is f.above
 pub ready_of : (a : Agenda) (p : Progress) (o : Option Going) → IsStage o a p → IsTermSpent p → IsReady a p
 ready_of a p None is spent = is
 ready_of a p (Some g) is spent = absurd (not_both p.parts p.lives p.block is.term spent is.next)
+
+-- in a schema's turn there is a schema at hand, and in an instance's turn both
+pub has_schema : (a : Agenda) (parts : SigParts) (c : Tree) → IsSchemaTurn (IsAt a) parts c → a.schema ≡ None → ⊥
+has_schema a parts c turn none =
+    let p = turn.progress in
+    let r = ready_of a p a.going turn.at turn.spent in
+    subst (λ (o : Option Candidate). MatchOption o (AreSpent p) (λ k. (d : Tree) × IsCandidate p.parts a.store.shelf a.store.weight k d × IsSchemaNext p d)) none r.next
+    c turn.next.is turn.next.above
+
+pub has_instance : (a : Agenda) (parts : SigParts) (t : Tree) → IsTermTurn (IsAt a) parts t → a.going ≡ None → ⊥
+has_instance a parts t turn none =
+    let p = turn.progress in
+    not_both p.parts p.lives p.block t (subst (λ o. IsStage o a p) none turn.at).spent turn.next
+
+pub goes_through_one : (a : Agenda) (parts : SigParts) (t : Tree) → IsTermTurn (IsAt a) parts t → a.schema ≡ None → ⊥
+goes_through_one a parts t turn none = by a.going turn.at
+  where
+    by : (o : Option Going) → IsStage o a turn.progress → ⊥
+    by None at = not_both turn.progress.parts turn.progress.lives turn.progress.block t at.spent turn.next
+    by (Some g) at = let is = at.schema_is in cc
 
 -- whether a term, and a schema, is the expected one
 pub same_term : (p : Progress) (r : Type 0) (s t : Tree) → IsTermNext p t → r ↔ (s ≡ t) → r ↔ IsTermNext p s

@@ -5,7 +5,7 @@ use Rattle.law_sig.specs.Lists.In.{here, there}
 use Rattle.law_sig.specs.Trees.{schema_of}
 use Rattle.law_sig.specs.Signature.{vars_at, sort_of, is_declared_sort}
 use Rattle.law_sig.specs.Tests.{weight, is_bounded, InU}
-use Rattle.law_sig.specs.Order.{IsBefore, rank}
+use Rattle.law_sig.specs.Order.{IsBefore}
 use Rattle.law_sig.specs.declared.tree.SortId.{SortId}
 use Rattle.law_sig.specs.declared.tree.SymId.{SymId}
 use Rattle.law_sig.specs.declared.tree.Tree.{Tree}
@@ -19,8 +19,8 @@ use Rattle.law_laws.proofs.Ranks.{Below}
 use Rattle.law_laws.proofs.Renaming.{all_true}
 use Rattle.law_laws.proofs.Sorts.{schema_sort}
 use Rattle.law_laws.proofs.Universe.{in_var, var_in}
-use Rattle.law_valid.specs.Expected.{IsFirstAbove, IsSpent}
-use Rattle.law_valid.specs.Schemas.{IsInstance, arguments_of}
+use Rattle.law_sig.specs.Expected.{IsFirstAbove, IsSpent}
+use Rattle.law_sig.specs.Schemas.{IsInstance, arguments_of}
 use Rattle.law_agenda.specs.declared.instances.Range.{Range}
 use Rattle.law_agenda.specs.declared.rows.Pick.{Pick}
 use Rattle.law_agenda.specs.Rows.{Lex, IsLower, IsRow}

@@ -5,14 +5,13 @@ use Rattle.law_sig.specs.Lists.{In, Each, Rising}
 use Rattle.law_sig.specs.Lists.In.{here, there}
 use Rattle.law_sig.specs.declared.tree.SortId.{SortId}
 use Rattle.law_sig.specs.declared.parts.SigParts.{SigParts}
-use Rattle.law_laws.proofs.ListFacts.{in_none, in_rest, in_left, in_right, in_split, each_of, of_each}
+use Rattle.law_laws.proofs.ListFacts.{in_none, in_rest, in_left, in_right, in_split, each_of, of_each, each_both, rising_both}
 use Rattle.law_laws.proofs.BodyFacts.{some_is, none_is}
 use Rattle.law_sig.specs.Trees.{schema_of}
 use Rattle.law_sig.specs.Signature.{is_declared_sort, sort_of}
 use Rattle.law_sig.specs.Tests.{weight}
 use Rattle.law_sig.specs.Order.{IsBefore}
 use Rattle.law_sig.specs.declared.tree.Tree.{Tree}
-use Rattle.law_valid.proofs.StatedFacts.{each_both, rising_both}
 use Rattle.law_agenda.specs.declared.shelves.Spread.{Spread}
 use Rattle.law_agenda.specs.declared.stores.Store.{Store}
 use Rattle.law_agenda.specs.Shelves.{Shelf, bucket, column, schemas_in, is_of_sort, sorted_out}
@@ -20,9 +19,9 @@ use Rattle.law_agenda.specs.Stores.{IsShelved, IsItem, HasNoOther, IsStore, IsFi
 use Rattle.law_agenda.specs.declared.candidates.Candidate.{Candidate}
 use Rattle.law_agenda.specs.declared.candidates.Candidate.TheVariants as candidate
 use Rattle.law_agenda.specs.Candidates.{IsCandidate}
-use Rattle.law_valid.specs.Schemas.{IsConsidered}
-use Rattle.law_valid.specs.Schemas.IsConsidered.{variable, application}
-use Rattle.law_valid.proofs.Considering.{considered_more}
+use Rattle.law_sig.specs.Schemas.{IsConsidered}
+use Rattle.law_sig.specs.Schemas.IsConsidered.{variable, application}
+use Rattle.law_laws.proofs.Considering.{considered_more}
 use Rattle.law_laws.proofs.TreeFacts.{weight-Var}
 use Rattle.law_laws.proofs.Sorts.{var_sorted}
 use Rattle.law_agenda.proofs.Seeking.{here_of}

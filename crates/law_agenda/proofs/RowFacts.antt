@@ -1,7 +1,7 @@
 -- Rows of picks: which come first and next, and the weights that they may have.
 use Rattle.std.proofs.Common.{◌≡◌, ◌≢◌, ℕ, zero, suc, ◌+◌, ◌-◌, ◌<◌, ◌≤◌, ◌⊎◌, inl, inr, Bool, true, false, true≢false, List, [], ◌∷◌, ◌++◌, length, slice_index_or, refl, sym, ap, ap₂, subst, arith}
 use Rattle.std.proofs.Math.Nat.{eq-or-lt_of_le}
-use Rattle.law_valid.specs.Expected.{IsFirstAbove, IsSpent}
+use Rattle.law_sig.specs.Expected.{IsFirstAbove, IsSpent}
 use Rattle.law_agenda.specs.declared.rows.Pick.{Pick}
 use Rattle.law_agenda.specs.Rows.{Lex, IsLower, IsRow, StartsFrom, IsRowFrom, IsFits, AreFits, AreAllFits, NoSum}
 

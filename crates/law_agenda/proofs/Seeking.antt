@@ -1,5 +1,5 @@
 -- The first and the next candidate of a symbol, and from a symbol on.
-use Rattle.std.proofs.Common.{◌≡◌, ℕ, suc, ◌-◌, ◌<◌, ◌≤◌, ◌⊎◌, inl, inr, true, false, true≢false, List, [], ◌∷◌, length, Option, Some, None, IsTrue, option_map, refl, sym, ap, ◌∙◌, subst, subst₂, arith}
+use Rattle.std.proofs.Common.{◌≡◌, ℕ, suc, ◌-◌, ◌<◌, ◌≤◌, ◌⊎◌, inl, inr, false, true≢false, List, [], ◌∷◌, length, Option, Some, None, IsTrue, option_map, refl, sym, ap, ◌∙◌, subst, subst₂, arith}
 use Rattle.law_sig.specs.Signature.{symbol_at, args_of, weight_at}
 use Rattle.law_sig.specs.Tests.{weight, is_explored}
 use Rattle.law_sig.specs.Order.{IsBefore}
@@ -15,9 +15,9 @@ use Rattle.law_laws.proofs.Universe.{listed_in}
 use Rattle.law_laws.proofs.BodyFacts.{some_is, none_is}
 use Rattle.law_sig.specs.declared.tree.SortId.{SortId}
 use Rattle.std.specs.Option.{MatchOption}
-use Rattle.law_valid.specs.Expected.{IsFirstAbove, IsSpent}
-use Rattle.law_valid.specs.Schemas.{IsConsidered}
-use Rattle.law_valid.specs.Schemas.IsConsidered.{variable, application}
+use Rattle.law_sig.specs.Expected.{IsFirstAbove, IsSpent}
+use Rattle.law_sig.specs.Schemas.{IsConsidered}
+use Rattle.law_sig.specs.Schemas.IsConsidered.{variable, application}
 use Rattle.law_agenda.specs.declared.candidates.Candidate.{Candidate}
 use Rattle.law_agenda.specs.declared.candidates.Candidate.TheVariants as candidate
 use Rattle.law_agenda.specs.declared.rows.Pick.{Pick}

@@ -14,8 +14,8 @@ use Rattle.law_laws.proofs.BodyFacts.{some_is, none_is}
 use Rattle.law_laws.proofs.ListFacts.{in_none, in_left, in_right, in_split, each_of, of_each}
 use Rattle.law_laws.proofs.Orders.{never_before_itself}
 use Rattle.law_laws.proofs.TreeFacts.{same_var, var_no_app}
-use Rattle.law_valid.specs.Schemas.{IsConsidered}
-use Rattle.law_valid.specs.Schemas.IsConsidered.{variable, application}
+use Rattle.law_sig.specs.Schemas.{IsConsidered}
+use Rattle.law_sig.specs.Schemas.IsConsidered.{variable, application}
 use Rattle.law_agenda.specs.declared.agenda.Agenda.{Agenda}
 use Rattle.law_agenda.specs.declared.agenda.Going.{Going}
 use Rattle.law_agenda.specs.declared.candidates.Candidate.{Candidate}
@@ -27,10 +27,10 @@ use Rattle.law_agenda.specs.declared.stores.Store.{Store}
 use Rattle.law_agenda.specs.Candidates.{IsCandidate, NextOf}
 use Rattle.law_agenda.specs.Choices.{Picked}
 use Rattle.law_agenda.specs.Instances.{range_of, ranges_of, IsRange, AreRanges, IsOpenVar, IsOpened, FirstInstance}
-use Rattle.law_agenda.specs.Progress.{Progress, after_spread, IsSchemaNext, AreSpent}
+use Rattle.law_valid.specs.Order.{Progress, after_spread, IsSchemaNext, AreSpent}
 use Rattle.law_agenda.specs.Shelves.{Shelf, bucket, column, lists_for, schemas_in, sorts_of}
-use Rattle.law_agenda.specs.Stores.{IsStore, IsItem, IsFitting, IsClosed}
-use Rattle.law_agenda.specs.Agendas.{IsReady, IsGoing, AreKept, AreRanged}
+use Rattle.law_agenda.specs.Stores.{IsStore, IsItem, IsClosed, Closes}
+use Rattle.law_agenda.specs.Agendas.{IsReady, IsGoing, IsStage, IsAt, IsFinished, Begins, AreKept, AreRanged}
 use Rattle.law_agenda.proofs.Picking.{in_place}
 use Rattle.law_agenda.proofs.Seeking.{some_case}
 use Rattle.law_agenda.proofs.Staging.{first_after, spent_after}
@@ -181,10 +181,6 @@ spread_on a p c own k i r next k_is own_is first = subst (λ d. IsGoing (Begun a
     }
 
 -- what putting a schema into a store gives
-abbrev pub Closes : SigParts → Store → Candidate → Tree → Store → Option Candidate → Type 0
-Closes parts store last c more next = (spreads : List Tree) → IsStore parts spreads store → IsCandidate parts store.shelf store.weight last c → IsFitting store last → IsClosed parts spreads c
-    → IsStore parts (spreads ++ c ∷ []) more × NextOf parts more.shelf more.weight (IsConsidered parts (spreads ++ c ∷ [])) c next
-
 -- it has no instance
 pub spread_over : (sig : SigParts) (a b : Agenda) (p : Progress) (c own : Tree) (k : Candidate) → IsReady a p → IsSchemaNext p c → a.schema ≡ Some k → own ≡ c → sig ≡ p.parts
     → FirstInstance p.parts p.lives c None → ((e : Spread) → IsItem b.store e → IsItem a.store e ⊎ (e ≡ record { schema = own; from = a.lives; to = a.lives })) → Closes sig a.store k own b.store b.schema
@@ -218,3 +214,24 @@ spread_over sig a b p c own k r next k_is own_is sig_is spent items closes l = r
         → MatchOption n (AreSpent (after_spread p c)) (λ k. (d : Tree) × IsCandidate p.parts b.store.shelf b.store.weight k d × IsSchemaNext (after_spread p c) d)
     by None h = spent_after p.parts (IsConsidered p.parts (p.spreads ++ c ∷ [])) p.schemas c h
     by (Some k) (d, d_is, f) = (d, d_is, first_after p.parts (IsConsidered p.parts (p.spreads ++ c ∷ [])) p.schemas c d next.above f)
+
+-- The same of an agenda by what it has
+
+abbrev Made : Store → Candidate → Tree → Instance → ℕ → Agenda
+Made store k c i n = record { store = store; schema = Some k; going = Some (Going_from n c i); lives = n }
+
+pub begun_on : (parts : SigParts) (store : Store) (k : Candidate) (c : Tree) (n : ℕ) (o : Option Instance) (i : Instance) (a : Agenda) → o ≡ Some i → Firsts parts store.shelf k o
+    → a ≡ Made store k c i n → Begins parts store k c n a
+begun_on parts store k c n o i a some go made old p r store_is schema_is lives_is sig_is next =
+    let first = first_here parts store.shelf old p c k o (Some i) r next schema_is sig_is (ap (λ (s : Store). s.shelf) (sym store_is)) some go in
+    subst (λ b. IsAt b (after_spread p c)) (sym made)
+    (subst₂ (λ s m. IsAt (Made s k c i m) (after_spread p c)) store_is lives_is (spread_on old p c c k i r next schema_is refl first))
+
+pub begun_over : (parts : SigParts) (store : Store) (k : Candidate) (c : Tree) (n : ℕ) (o : Option Instance) (a : Agenda) → o ≡ None → Firsts parts store.shelf k o
+    → IsFinished parts store k (record { schema = c; from = n; to = n }) n a → Begins parts store k c n a
+begun_over parts store k c n o a none go done old p r store_is schema_is lives_is sig_is next =
+    let first = first_here parts store.shelf old p c k o None r next schema_is sig_is (ap (λ (s : Store). s.shelf) (sym store_is)) none go in
+    subst (λ g. IsStage g a (after_spread p c)) (sym done.rests)
+    (spread_over parts old a p c c k r next schema_is refl sig_is first
+    (subst₂ (λ s m. (e : Spread) → IsItem a.store e → IsItem s e ⊎ (e ≡ record { schema = c; from = m; to = m })) (sym store_is) (sym lives_is) done.items)
+    (subst (λ s. Closes parts s k c a.store a.schema) (sym store_is) done.closes) (done.long ∙ sym lives_is))

@@ -1,5 +1,5 @@
 -- The order of exploring goes through schemas stage by stage.
-use Rattle.std.proofs.Common.{◌≡◌, ℕ, suc, ◌+◌, ◌<◌, ◌⊎◌, inl, inr, List, [], ◌∷◌, ◌++◌, map, refl, sym, ap, ◌∙◌, subst, subst₂, arith}
+use Rattle.std.proofs.Common.{◌≡◌, ℕ, suc, ◌<◌, ◌⊎◌, inl, inr, List, [], ◌∷◌, ◌++◌, map, refl, sym, ap, ◌∙◌, subst, subst₂, arith}
 use Rattle.std.proofs.Math.Nat.{eq-or-lt_of_le}
 use Rattle.law_sig.specs.Trees.{schema_of}
 use Rattle.law_sig.specs.Tests.{weight}
@@ -9,11 +9,10 @@ use Rattle.law_sig.specs.declared.tree.Tree.{Tree}
 use Rattle.law_sig.specs.declared.tree.Tree.TheVariants.{Var, App, outs-Var, outs-App}
 use Rattle.law_sig.specs.declared.parts.SigParts.{SigParts}
 use Rattle.law_laws.proofs.TreeFacts.{tree_cases, weight-Var, rank-Var, rank-App}
-use Rattle.law_laws.proofs.ListFacts.{each_map}
+use Rattle.law_laws.proofs.ListFacts.{each_map, each_both}
 use Rattle.law_laws.proofs.Ranks.{Below, below_less, less_below, irreflexive}
 use Rattle.law_laws.proofs.Orders.{before_chain}
-use Rattle.law_valid.specs.Expected.{IsAbove, IsFirstAbove, IsSpent}
-use Rattle.law_valid.proofs.StatedFacts.{each_both}
+use Rattle.law_sig.specs.Expected.{IsAbove, IsFirstAbove, IsSpent}
 use Rattle.law_agenda.specs.Rows.{Lex}
 use Rattle.law_agenda.specs.Stages.{kind, number, kind_in, number_in, AtStage, FromStage, Here, Onward}
 

@@ -17,13 +17,12 @@ use Rattle.law_laws.proofs.TreeFacts.{tree_cases, weight-Var, schema-Var, same_v
 use Rattle.law_laws.proofs.Orders.{never_before_itself}
 use Rattle.law_laws.proofs.ListFacts.{in_none, in_rest, of_each}
 use Rattle.law_laws.proofs.Sorts.{sorted_var, sorted_app, same_sort_is, same_sort_itself}
-use Rattle.law_valid.specs.Expected.{IsFirstAbove, IsSpent}
-use Rattle.law_valid.specs.Schemas.{IsConsidered}
-use Rattle.law_valid.specs.Schemas.IsConsidered.{variable, application}
+use Rattle.law_sig.specs.Expected.{IsFirstAbove, IsSpent}
+use Rattle.law_sig.specs.Schemas.{IsConsidered}
+use Rattle.law_sig.specs.Schemas.IsConsidered.{variable, application}
 use Rattle.law_agenda.specs.declared.shelves.Spread.{Spread}
 use Rattle.law_agenda.specs.declared.stores.Store.{Store}
 use Rattle.law_agenda.specs.declared.candidates.Candidate.{Candidate}
-use Rattle.law_agenda.specs.declared.candidates.Candidate.TheVariants as candidate
 use Rattle.law_agenda.specs.Shelves.{Shelf, bucket, schemas_in, gives_sort, heads_sort, is_of_sort, sorted_out}
 use Rattle.law_agenda.specs.Stages.{kind, number, kind_in, number_in, AtStage, FromStage, Here, Onward}
 use Rattle.law_agenda.specs.Candidates.{FirstOf, NextOf, FirstFrom}

@@ -17,8 +17,8 @@ use Rattle.law_laws.proofs.ListFacts.{of_each}
 use Rattle.law_laws.proofs.Sorts.{HaveSorts, sorted_app, app_sorted}
 use Rattle.law_laws.proofs.BodyFacts.{some_is}
 use Rattle.law_laws.proofs.Orders.{never_before_itself, before_chain, lighter}
-use Rattle.law_valid.specs.Schemas.{IsConsidered}
-use Rattle.law_valid.specs.Schemas.IsConsidered.{variable, application}
+use Rattle.law_sig.specs.Schemas.{IsConsidered}
+use Rattle.law_sig.specs.Schemas.IsConsidered.{variable, application}
 use Rattle.law_agenda.specs.declared.rows.Pick.{Pick}
 use Rattle.law_agenda.specs.Rows.{Lex, IsLower, IsRow}
 use Rattle.law_agenda.specs.Choices.{counts_of, IsChosen, Picked}

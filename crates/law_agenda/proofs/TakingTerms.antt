@@ -13,13 +13,12 @@ use Rattle.law_sig.specs.declared.tree.Tree.{Tree}
 use Rattle.law_sig.specs.declared.tree.Tree.TheVariants.{App}
 use Rattle.law_sig.specs.declared.parts.SigParts.{SigParts}
 use Rattle.law_laws.proofs.TreeFacts.{same_app, var_no_app}
-use Rattle.law_laws.proofs.ListFacts.{of_each, each_map, in_left, in_right, in_split, in_map}
+use Rattle.law_laws.proofs.ListFacts.{of_each, each_map, in_left, in_right, in_split, in_map, each_both, rising_both}
 use Rattle.law_laws.proofs.Orders.{never_before_itself, before_chain}
-use Rattle.law_valid.specs.Expected.{IsFirstAbove, IsSpent}
-use Rattle.law_valid.specs.Schemas.{IsConsidered, IsInstance}
-use Rattle.law_valid.specs.Schemas.IsConsidered.{variable, application}
-use Rattle.law_valid.specs.Judged.{IsBlockSpent, IsNextTerm, with_term}
-use Rattle.law_valid.proofs.StatedFacts.{each_both, rising_both}
+use Rattle.law_sig.specs.Expected.{IsFirstAbove, IsSpent}
+use Rattle.law_sig.specs.Schemas.{IsConsidered, IsInstance}
+use Rattle.law_sig.specs.Schemas.IsConsidered.{variable, application}
+use Rattle.law_valid.specs.Order.{IsBlockSpent, IsNextTerm, with_term, Progress, after_term, AreSpent, IsSchemaNext, IsTermNext}
 use Rattle.law_agenda.specs.declared.agenda.Agenda.{Agenda}
 use Rattle.law_agenda.specs.declared.agenda.Going.{Going}
 use Rattle.law_agenda.specs.declared.candidates.Candidate.{Candidate}
@@ -29,12 +28,11 @@ use Rattle.law_agenda.specs.declared.instances.Range.{Range}
 use Rattle.law_agenda.specs.declared.shelves.Spread.{Spread}
 use Rattle.law_agenda.specs.declared.stores.Store.{Store}
 use Rattle.law_agenda.specs.declared.stores.Found.{Found}
-use Rattle.law_agenda.specs.Agendas.{IsReady, IsGoing, AreKept, AreRanged}
+use Rattle.law_agenda.specs.Agendas.{IsReady, IsGoing, IsAt, IsFinished, Continues, AreKept, AreRanged}
 use Rattle.law_agenda.specs.Candidates.{IsCandidate, IsTermOf, NextOf}
 use Rattle.law_agenda.specs.Choices.{counts_of}
 use Rattle.law_agenda.specs.Instances.{piece, pieces, IsRange, AreRanges, IsInstanceOf, IsHeld, NextInstance}
-use Rattle.law_agenda.specs.Progress.{Progress, after_term, AreSpent, IsSchemaNext, IsTermNext}
-use Rattle.law_agenda.specs.Stores.{IsStore, IsItem, IsFitting, IsClosed}
+use Rattle.law_agenda.specs.Stores.{IsStore, IsItem, IsFitting, IsClosed, Closes}
 use Rattle.law_agenda.specs.Walking.{IsWalk}
 use Rattle.law_agenda.proofs.AgendaFacts.{term_one}
 use Rattle.law_agenda.proofs.Storing.{longer}
@@ -304,13 +302,9 @@ taken_going a g p t live n s o r i is next n_is s_is r_is go = longer_by p.parts
     (go p.parts (p.lives ++ more) g.spread.schema t (held a g p is t next more same rises) (instance_is a g p is t next more same rises))))
     (longer_length live p.lives t a.lives n is.long n_is)
 
-abbrev pub Closes : SigParts → Store → Candidate → Tree → Found → Type 0
-Closes parts store last c found = (spreads : List Tree) → IsStore parts spreads store → IsCandidate parts store.shelf store.weight last c → IsFitting store last → IsClosed parts spreads c
-    → IsStore parts (spreads ++ c ∷ []) found.store × NextOf parts found.store.shelf found.store.weight (IsConsidered parts (spreads ++ c ∷ [])) c found.next
-
 pub taken_ready : (a : Agenda) (g : Going) (p : Progress) (t : Tree) (live : Bool) (n : ℕ) (last : Candidate) (r : Option Instance) (found : Found) → IsGoing a g p → IsTermNext p t
     → n ≡ (if live then suc a.lives else a.lives) → a.schema ≡ Some last → r ≡ None → GoesOn g.instance r
-    → ((e : Spread) → IsItem found.store e → IsItem a.store e ⊎ (e ≡ record { schema = g.spread.schema; from = g.spread.from; to = n })) → Closes p.parts a.store last g.spread.schema found
+    → ((e : Spread) → IsItem found.store e → IsItem a.store e ⊎ (e ≡ record { schema = g.spread.schema; from = g.spread.from; to = n })) → Closes p.parts a.store last g.spread.schema found.store found.next
     → IsReady (record { store = found.store; schema = found.next; going = None; lives = n }) (after_term p t live)
 taken_ready a g p t live n last r found is next n_is s_is r_is go items closes =
     let same_last : is.candidate ≡ last = some_same (sym is.schema_is ∙ s_is) in
@@ -321,3 +315,23 @@ taken_ready a g p t live n last r found is next n_is s_is r_is go items closes =
     (go p.parts (p.lives ++ more) g.spread.schema t (held a g p is t next more same rises) (instance_is a g p is t next more same rises)))
     items store_is behind)
     (longer_length live p.lives t a.lives n is.long n_is)
+
+-- The same of an agenda by what it has
+
+abbrev Made : Store → Candidate → Spread → Instance → ℕ → Agenda
+Made store k e i n = record { store = store; schema = Some k; going = Some (record { spread = e; instance = i }); lives = n }
+
+pub gone_on : (parts : SigParts) (store : Store) (k : Candidate) (g : Going) (n : ℕ) (r : Option Instance) (i : Instance) (a : Agenda) → r ≡ Some i → GoesOn g.instance r
+    → a ≡ Made store k g.spread i n → Continues parts store k g n a
+gone_on parts store k g n r i a some go made old p t live is store_is schema_is sig_is next n_is =
+    subst (λ b. IsAt b (after_term p t live)) (sym made)
+    (subst (λ s. IsAt (Made s k g.spread i n) (after_term p t live)) store_is
+    (taken_going old g p t live n (Some k) (Some (record { spread = g.spread; instance = i })) r i is next n_is (sym schema_is) some go))
+
+pub gone_over : (parts : SigParts) (store : Store) (k : Candidate) (g : Going) (n : ℕ) (r : Option Instance) (a : Agenda) → r ≡ None → GoesOn g.instance r
+    → IsFinished parts store k (record { schema = g.spread.schema; from = g.spread.from; to = n }) n a → Continues parts store k g n a
+gone_over parts store k g n r a none go done old p t live is store_is schema_is sig_is next n_is =
+    subst₂ (λ h m. IsAt (record { store = a.store; schema = a.schema; going = h; lives = m }) (after_term p t live)) (sym done.rests) (sym done.long)
+    (taken_ready old g p t live n k r (record { store = a.store; next = a.schema }) is next n_is schema_is none go
+    (subst (λ s. (e : Spread) → IsItem a.store e → IsItem s e ⊎ (e ≡ record { schema = g.spread.schema; from = g.spread.from; to = n })) (sym store_is) done.items)
+    (subst₂ (λ q s. Closes q s k g.spread.schema a.store a.schema) sig_is (sym store_is) done.closes))

@@ -1,6 +1,6 @@
 -- What comes first and next of some things, told by what comes first and next of others that stand for them.
 use Rattle.std.proofs.Common.{◌≡◌, ◌⊎◌, inl, inr, [], ◌∷◌, subst}
-use Rattle.law_valid.specs.Expected.{IsFirstAbove, IsSpent}
+use Rattle.law_sig.specs.Expected.{IsFirstAbove, IsSpent}
 
 -- things of one kind stand for those of another, in order
 pub record StandFor {A B : Type 0} (R : A → A → Type 0) (S : B → B → Type 0) (P : A → Type 0) (Q : B → Type 0) (Of : A → B → Type 0) : Type 0 where

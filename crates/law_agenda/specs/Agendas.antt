@@ -1,5 +1,5 @@
 -- What an agenda knows.
-use Rattle.std.specs.Prelude.{◌≡◌, ◌++◌, ◌∷◌, [], List, length, true, Option, Some, None}
+use Rattle.std.specs.Prelude.{◌≡◌, ◌⊎◌, ◌++◌, ◌∷◌, [], ℕ, suc, List, length, Bool, true, if◌then◌else◌, Option, Some, None}
 use Rattle.std.specs.Option.{MatchOption}
 use Rattle.law_sig.specs.Lists.{In, Each, Rising}
 use Rattle.law_sig.specs.Trees.{schema_of}
@@ -7,7 +7,7 @@ use Rattle.law_sig.specs.Tests.{is_bounded}
 use Rattle.law_sig.specs.Order.{IsBefore}
 use Rattle.law_sig.specs.declared.tree.Tree.{Tree}
 use Rattle.law_sig.specs.declared.parts.SigParts.{SigParts}
-use Rattle.law_valid.specs.Expected.{IsAbove}
+use Rattle.law_sig.specs.Expected.{IsAbove}
 use Rattle.law_agenda.specs.declared.agenda.Agenda.{Agenda}
 use Rattle.law_agenda.specs.declared.agenda.Going.{Going}
 use Rattle.law_agenda.specs.declared.candidates.Candidate.{Candidate}
@@ -15,8 +15,8 @@ use Rattle.law_agenda.specs.declared.shelves.Spread.{Spread}
 use Rattle.law_agenda.specs.declared.stores.Store.{Store}
 use Rattle.law_agenda.specs.Candidates.{IsCandidate}
 use Rattle.law_agenda.specs.Instances.{IsRange, IsInstanceOf, IsHeld}
-use Rattle.law_agenda.specs.Progress.{Progress, IsSchemaNext, AreSpent, IsTermNext, IsTermSpent}
-use Rattle.law_agenda.specs.Stores.{IsStore, IsItem, IsFitting, IsClosed}
+use Rattle.law_valid.specs.Order.{Progress, after_spread, after_term, IsSchemaNext, AreSpent, IsTermNext, IsTermSpent}
+use Rattle.law_agenda.specs.Stores.{IsStore, IsItem, IsFitting, IsClosed, Closes}
 
 -- each spread schema in the store has the range of its live terms
 abbrev pub AreRanged : SigParts → List Tree → Store → Type 0
@@ -76,3 +76,22 @@ IsStage (Some g) a p = IsGoing a g p
 
 abbrev pub IsAt : Agenda → Progress → Type 0
 IsAt a p = IsStage a.going a p
+
+-- Steps, whatever agenda it was
+
+-- its schema at hand is put into the store, and the next one is at hand
+pub record IsFinished (parts : SigParts) (store : Store) (last : Candidate) (spread : Spread) (lives : ℕ) (a : Agenda) : Type 0 where
+  pub items : (e : Spread) → IsItem a.store e → IsItem store e ⊎ (e ≡ spread)
+  pub closes : Closes parts store last spread.schema a.store a.schema
+  pub rests : a.going ≡ None
+  pub long : a.lives ≡ lives
+
+-- after its schema at hand, with so many live terms, was spread
+abbrev pub Begins : SigParts → Store → Candidate → Tree → ℕ → Agenda → Type 0
+Begins parts store last c lives a = (old : Agenda) (p : Progress) → IsReady old p → old.store ≡ store → old.schema ≡ Some last → old.lives ≡ lives → parts ≡ p.parts
+    → IsSchemaNext p c → IsAt a (after_spread p c)
+
+-- after the next instance was live or moved, after which there are so many live terms
+abbrev pub Continues : SigParts → Store → Candidate → Going → ℕ → Agenda → Type 0
+Continues parts store last g lives a = (old : Agenda) (p : Progress) (t : Tree) (live : Bool) → IsGoing old g p → old.store ≡ store → old.schema ≡ Some last → parts ≡ p.parts
+    → IsTermNext p t → lives ≡ (if live then suc old.lives else old.lives) → IsAt a (after_term p t live)

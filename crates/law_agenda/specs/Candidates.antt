@@ -9,8 +9,8 @@ use Rattle.law_sig.specs.declared.tree.SymId.{SymId}
 use Rattle.law_sig.specs.declared.tree.Tree.{Tree}
 use Rattle.law_sig.specs.declared.tree.Tree.TheVariants.{Var, App}
 use Rattle.law_sig.specs.declared.parts.SigParts.{SigParts}
-use Rattle.law_valid.specs.Expected.{IsFirstAbove, IsSpent}
-use Rattle.law_valid.specs.Schemas.{IsConsidered}
+use Rattle.law_sig.specs.Expected.{IsFirstAbove, IsSpent}
+use Rattle.law_sig.specs.Schemas.{IsConsidered}
 use Rattle.law_agenda.specs.declared.rows.Pick.{Pick}
 use Rattle.law_agenda.specs.declared.candidates.Candidate.{Candidate}
 use Rattle.law_agenda.specs.declared.candidates.Candidate.TheVariants as candidate

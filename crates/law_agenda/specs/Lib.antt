@@ -6,6 +6,5 @@ pub mod Shelves
 pub mod Candidates
 pub mod Stores
 pub mod Instances
-pub mod Progress
 pub mod Agendas
 pub mod Marks

@@ -1,5 +1,5 @@
 -- All that is known of the spread schemas so far.
-use Rattle.std.specs.Prelude.{◌≡◌, ℕ, ◌<◌, ◌≤◌, ◌⊎◌, List, length, Option, Some}
+use Rattle.std.specs.Prelude.{◌≡◌, ℕ, ◌<◌, ◌≤◌, ◌⊎◌, List, [], ◌∷◌, ◌++◌, length, Option, Some}
 use Rattle.std.specs.Option.{MatchOption}
 use Rattle.law_sig.specs.Lists.{In, Each, Rising}
 use Rattle.law_sig.specs.Signature.{vars_at, sort_of}
@@ -8,12 +8,12 @@ use Rattle.law_sig.specs.Order.{IsBefore}
 use Rattle.law_sig.specs.declared.tree.SortId.{SortId}
 use Rattle.law_sig.specs.declared.tree.Tree.{Tree}
 use Rattle.law_sig.specs.declared.parts.SigParts.{SigParts}
-use Rattle.law_valid.specs.Schemas.{IsConsidered}
+use Rattle.law_sig.specs.Schemas.{IsConsidered}
 use Rattle.law_agenda.specs.declared.shelves.Spread.{Spread}
 use Rattle.law_agenda.specs.declared.stores.Store.{Store}
 use Rattle.law_agenda.specs.declared.candidates.Candidate.{Candidate}
 use Rattle.law_agenda.specs.declared.candidates.Candidate.TheVariants as candidate
-use Rattle.law_agenda.specs.Candidates.{IsStock}
+use Rattle.law_agenda.specs.Candidates.{IsCandidate, IsStock, NextOf}
 use Rattle.law_agenda.specs.Shelves.{Shelf, bucket, schemas_in}
 
 -- the spread schemas of the weight at hand
@@ -61,3 +61,8 @@ HasNoOther store more = (e : Spread) → IsItem more e → IsItem store e
 pub record IsClosed (parts : SigParts) (spreads : List Tree) (c : Tree) : Type 0 where
   pub considered : IsConsidered parts spreads c
   pub after : Each (λ d. IsBefore parts d c) spreads
+
+-- what is found once a schema is in the store, after which it came
+abbrev pub Closes : SigParts → Store → Candidate → Tree → Store → Option Candidate → Type 0
+Closes parts store last c more next = (spreads : List Tree) → IsStore parts spreads store → IsCandidate parts store.shelf store.weight last c → IsFitting store last → IsClosed parts spreads c
+    → IsStore parts (spreads ++ c ∷ []) more × NextOf parts more.shelf more.weight (IsConsidered parts (spreads ++ c ∷ [])) c next

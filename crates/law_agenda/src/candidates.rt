@@ -2,7 +2,7 @@ ghost use Rattle.std.specs.Prelude.{◌≡◌, ◌<◌, List, ℕ, length, IfOk}
 ghost use Rattle.law_sig.specs.Signature.{vars_at, weight_at};
 ghost use Rattle.law_sig.specs.Tests.{is_explored};
 ghost use Rattle.law_sig.specs.declared.tree.Tree.{Tree};
-ghost use Rattle.law_valid.specs.Schemas.{IsConsidered};
+ghost use Rattle.law_sig.specs.Schemas.{IsConsidered};
 ghost use Rattle.law_agenda.specs.declared.candidates.Candidate.TheVariants as candidate;
 ghost use Rattle.law_agenda.specs.Candidates.{IsApplication, IsStock, FirstOf, NextOf, FirstFrom};
 ghost use Rattle.law_agenda.specs.Stages.{Here};

@@ -1,12 +1,11 @@
 ghost use Rattle.std.specs.Prelude.{◌≡◌, ◌↔◌, ◌⊎◌, ◌++◌, ◌∷◌, [], IfOk, IsTrue, List, Some, slice_get, slice_index_or};
 ghost use Rattle.law_sig.specs.declared.tree.Tree.{Tree};
-ghost use Rattle.law_valid.specs.Schemas.{IsConsidered};
+ghost use Rattle.law_sig.specs.Schemas.{IsConsidered};
 ghost use Rattle.law_agenda.specs.declared.shelves.Spread.{Spread};
-ghost use Rattle.law_agenda.specs.Stores.{IsClosed};
+ghost use Rattle.law_agenda.specs.Stores.{IsClosed, IsStore, IsFitting, IsItem};
 ghost use Rattle.law_agenda.specs.Candidates.{IsCandidate, NextOf};
 ghost use Rattle.law_agenda.specs.Choices.{Picked};
 ghost use Rattle.law_agenda.specs.Shelves.{column, lists_for, schemas_in};
-ghost use Rattle.law_agenda.specs.Stores.{IsStore, IsFitting, IsItem};
 
 use super::candidates::Candidate;
 use super::rows::Pick;

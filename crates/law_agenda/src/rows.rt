@@ -1,6 +1,6 @@
 ghost use Rattle.std.specs.Prelude.{◌≡◌, ℕ, ◌≢◌, ◌∷◌, ◌+◌, ◌<◌, ◌^◌, [], slice_index_or, true, false, IfOk};
 ghost use Rattle.std.specs.Option.{MatchOption};
-ghost use Rattle.law_valid.specs.Expected.{IsFirstAbove, IsSpent};
+ghost use Rattle.law_sig.specs.Expected.{IsFirstAbove, IsSpent};
 ghost use Rattle.law_agenda.specs.Rows.{Lex, IsLower, IsRow, IsRowFrom, AreFits, AreAllFits, NoSum};
 
 use law_sig::{NoMemory, Seq};

@@ -1,6 +1,6 @@
 ghost use Rattle.std.specs.Prelude.{◌≡◌, ◌<◌, ◌+◌, ◌-◌, ◌++◌, ◌∷◌, ◌^◌, min, List, [], length, IfOk};
 ghost use Rattle.law_sig.specs.declared.tree.Tree.{Tree};
-ghost use Rattle.law_valid.specs.Schemas.{IsConsidered};
+ghost use Rattle.law_sig.specs.Schemas.{IsConsidered};
 ghost use Rattle.law_agenda.specs.Candidates.{IsCandidate, FirstOf, NextOf};
 ghost use Rattle.law_agenda.specs.Shelves.{sorted_out};
 ghost use Rattle.law_agenda.specs.Stages.{Onward};

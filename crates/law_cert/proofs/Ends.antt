@@ -1,33 +1,34 @@
 -- A text that is over too early: its lines are all the lines of no certificate.
 use Rattle.std.proofs.Common.{◌≡◌, ℕ, false, List, [], ◌∷◌, ◌++◌, Some, inr, refl, ap, sym, subst, ◌∙◌, map}
 use Rattle.std.specs.List.{AllByRecursion}
-use Rattle.law_read.specs.declared.raw.RawLine.{RawLine}
-use Rattle.law_read.specs.declared.stage.Stage.{Stage}
-use Rattle.law_read.specs.declared.want.Bounds.TheVariants.{Kept}
-use Rattle.law_read.specs.Faults.{is_closed_by}
-use Rattle.law_read.specs.Lines.{IsLine}
-use Rattle.law_read.specs.Progress.{Progress}
-use Rattle.law_read.specs.Spelling.{line_spelling}
-use Rattle.law_read.specs.Stages.{InOrder, line_key, stage_after, stage_behind, start}
-use Rattle.law_read.proofs.OneLine.{one_line}
-use Rattle.law_read.proofs.Whole.{IsWholeFrom, whole_of}
-use Rattle.law_cert.specs.declared.cert.Entry.{Entry}
-use Rattle.law_cert.specs.declared.cert.RawValues.{RawValues}
-use Rattle.law_cert.specs.declared.cert.SortTree.{SortTree}
-use Rattle.law_cert.specs.declared.draft.Draft.{Draft}
-use Rattle.law_cert.specs.declared.draft.Draft.TheVariants as d
-use Rattle.law_cert.specs.declared.error.CertErr.TheVariants as error
+use Rattle.law_lines.specs.declared.raw.RawLine.{RawLine}
+use Rattle.law_lines.specs.declared.stage.Stage.{Stage}
+use Rattle.law_lines.specs.declared.want.Bounds.TheVariants.{Kept}
+use Rattle.law_lines.specs.Faults.{is_closed_by}
+use Rattle.law_lines.specs.Lines.{IsLine}
+use Rattle.law_places.specs.Progress.{Progress}
+use Rattle.law_lines.specs.Spelling.{line_spelling}
+use Rattle.law_lines.specs.Stages.{InOrder, line_key, stage_after, stage_behind, start}
+use Rattle.law_lines.proofs.OneLine.{one_line}
+use Rattle.law_lines.proofs.Whole.{IsWholeFrom, whole_of}
+use Rattle.law_cert_text.specs.declared.cert.Entry.{Entry}
+use Rattle.law_cert_text.specs.declared.cert.RawValues.{RawValues}
+use Rattle.law_cert_text.specs.declared.cert.SortTree.{SortTree}
+use Rattle.law_cert_text.specs.declared.draft.Draft.{Draft}
+use Rattle.law_cert_text.specs.declared.draft.Draft.TheVariants as d
+use Rattle.law_cert_text.specs.declared.error.CertErr.TheVariants as error
 use Rattle.law_cert.specs.declared.phase.Phase.{Phase}
 use Rattle.law_cert.specs.declared.phase.Phase.TheVariants as p
-use Rattle.law_cert.specs.CertLines.{line_text}
-use Rattle.law_cert.specs.Drafts.{read_of, runs}
+use Rattle.law_cert_text.specs.CertLines.{line_text}
+use Rattle.law_cert_text.specs.Drafts.{read_of, runs}
 use Rattle.law_cert.specs.Finishes.{NotFinished}
-use Rattle.law_cert.specs.Readers.{IsPhase, IsSigOpen, body_lines, phase_lines}
-use Rattle.law_cert.specs.Readings.{AreAll}
-use Rattle.law_cert.proofs.OneCert.{body_valid, lines_are, one_front, over}
-use Rattle.law_cert.proofs.OneCertLine.{one_cert_lines}
-use Rattle.law_cert.proofs.RunFacts.{cert_runs}
-use Rattle.law_cert.proofs.Stuck.{not_over, same_behind, same_head}
+use Rattle.law_cert_text.specs.Readers.{body_lines}
+use Rattle.law_cert.specs.Phases.{IsPhase, IsSigOpen, phase_lines}
+use Rattle.law_cert_text.specs.Readings.{AreAll}
+use Rattle.law_cert_text.proofs.OneCert.{body_valid, lines_are, one_front, over}
+use Rattle.law_cert_text.proofs.OneCertLine.{one_cert_lines}
+use Rattle.law_cert_text.proofs.RunFacts.{cert_runs}
+use Rattle.law_cert_text.proofs.Stuck.{not_over, same_behind, same_head}
 
 unclosed : (stage : Stage) (xs ys : List RawLine) (vs : List (List ℕ)) → InOrder stage xs → AllByRecursion (IsLine Kept) xs → is_closed_by (stage_behind stage xs).last ≡ false → IsWholeFrom stage ys
     → map line_spelling ys ++ vs ≡ map line_spelling xs → ⊥

@@ -1,16 +1,2 @@
-pub mod PartFacts
-pub mod ArgFacts
-pub mod RowFacts
-pub mod TailFacts
-pub mod DraftFacts
-pub mod BodyText
-pub mod OneCertLine
-pub mod RunFacts
-pub mod OneCert
-pub mod Completions
-pub mod Stuck
 pub mod Ends
-pub mod Refusals
-pub mod NoneSpelled
-pub mod FirstFaults
-pub mod Joined
+pub mod PhaseFacts

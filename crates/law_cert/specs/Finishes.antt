@@ -1,13 +1,13 @@
 -- What stands where a text is over.
 use Rattle.std.specs.Prelude.{◌≡◌, ℕ, true, false, Some, None, ◌⊎◌}
-use Rattle.law_cert.specs.declared.cert.Cert.{Cert}
+use Rattle.law_cert_text.specs.declared.cert.Cert.{Cert}
 use Rattle.law_cert.specs.declared.phase.Phase.{Phase}
-use Rattle.law_cert.specs.declared.error.CertErr.{CertErr}
-use Rattle.law_cert.specs.declared.error.CertErr.TheVariants as error
-use Rattle.law_cert.specs.Spelling.{cert_lines}
-use Rattle.law_cert.specs.Certificates.{IsCertText}
-use Rattle.law_cert.specs.Readers.{IsGoing, phase_lines, phase_refused, phase_starved}
-use Rattle.law_cert.specs.Readings.{AreAll}
+use Rattle.law_cert_text.specs.declared.error.CertErr.{CertErr}
+use Rattle.law_cert_text.specs.declared.error.CertErr.TheVariants as error
+use Rattle.law_cert_text.specs.Spelling.{cert_lines}
+use Rattle.law_cert_text.specs.Certificates.{IsCertText}
+use Rattle.law_cert.specs.Phases.{IsGoing, phase_lines, phase_refused, phase_starved}
+use Rattle.law_cert_text.specs.Readings.{AreAll}
 
 -- The certificate of the lines that were read.
 pub record IsFinished (phase : Phase) (cert : Cert) : Type 0 where

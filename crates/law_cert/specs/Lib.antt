@@ -1,9 +1,2 @@
-pub mod Spelling
-pub mod Certificates
-pub mod Words
-pub mod CertLines
-pub mod Drafts
-pub mod Readings
-pub mod Readers
 pub mod Finishes
-pub mod Laws
+pub mod Phases

@@ -1,73 +1,35 @@
 ghost use Rattle.std.specs.Prelude.{◌≡◌, ◌+◌, ◌*◌, ◌^◌, ◌≤◌, ◌<◌, IfOk};
-ghost use Rattle.law_cert.specs.CertLines.{IsCertLine};
-ghost use Rattle.law_cert.specs.Certificates.{IsNode};
-ghost use Rattle.law_cert.specs.Drafts.{IsDraft, IsDraftWith, IsGrowing, behind_pools, behind_trees, closed_by, closed_pool, entered, grown, paid, pooled, started, with_line, with_step};
+ghost use Rattle.law_cert_text.specs.CertLines.{IsCertLine};
+ghost use Rattle.law_cert_text.specs.Certificates.{IsNode};
+ghost use Rattle.law_cert_text.specs.Drafts.{IsDraft, IsDraftWith, IsGrowing, behind_pools, behind_trees, closed_by, closed_pool, entered, grown, paid, pooled, started, with_line, with_step};
 
-use crate::cert::{Entry, RawStep, RawValues, SortTree, TreeLine};
-use crate::line::CertLine;
+use law_cert_text::{CertLine, Draft, Entry, Owed, RawStep, RawValues, SortTree, TreeLine};
 use law_sig::{NoMemory, Seq, Text};
 use std::alloc::Global;
 
-/// What was read of a certificate behind its signature. The last pool, entry or tree stands apart, since
-/// it may go on; of a tree that is how many trees of sorts and of terms are still owed.
-#[derive(Debug, Drop)]
-pub enum Draft {
-    Start,
-    Pools {
-        pools: Seq<Seq<RawValues>>,
-        pool: Seq<RawValues>,
-    },
-    Entries {
-        pools: Seq<Seq<RawValues>>,
-        entries: Seq<Entry>,
-        entry: Entry,
-    },
-    Trees {
-        pools: Seq<Seq<RawValues>>,
-        entries: Seq<Entry>,
-        trees: Seq<SortTree>,
-        tree: SortTree,
-        owed: Owed,
-    },
-    Over {
-        pools: Seq<Seq<RawValues>>,
-        entries: Seq<Entry>,
-        trees: Seq<SortTree>,
-    },
-}
-
-/// How many trees must still come: so many of terms, and then so many of sorts.
-#[derive(Clone, Copy, Debug)]
-pub struct Owed {
-    pub sorts: u128,
-    pub terms: u128,
-}
-
-impl Draft {
-    /// What was read with one more line; `None` where the line may not come.
-    pub fn with(self, alloc: Global, line: CertLine) -> Result<Option<Draft>, NoMemory>
-        requires draft { IsDraft self }
-        requires line { IsCertLine line }
-        ensures next { IfOk result (λ next. next ≡ with_line self line) }
-        ensures more { IfOk result (IsDraftWith self line) }
-    {
-        match self {
-            Draft::Start => Ok(started(alloc, line)),
-            Draft::Pools { pools, pool } => pooled(alloc, pools, pool, line),
-            Draft::Entries {
-                pools,
-                entries,
-                entry,
-            } => entered(alloc, pools, entries, entry, line),
-            Draft::Trees {
-                pools,
-                entries,
-                trees,
-                tree,
-                owed,
-            } => grown(alloc, pools, entries, trees, tree, owed, line),
-            Draft::Over { .. } => Ok(None),
-        }
+/// What was read with one more line; `None` where the line may not come.
+pub fn with_line(alloc: Global, draft: Draft, line: CertLine) -> Result<Option<Draft>, NoMemory>
+    requires draft { IsDraft draft }
+    requires line { IsCertLine line }
+    ensures next { IfOk result (λ next. next ≡ with_line draft line) }
+    ensures more { IfOk result (IsDraftWith draft line) }
+{
+    match draft {
+        Draft::Start => Ok(started(alloc, line)),
+        Draft::Pools { pools, pool } => pooled(alloc, pools, pool, line),
+        Draft::Entries {
+            pools,
+            entries,
+            entry,
+        } => entered(alloc, pools, entries, entry, line),
+        Draft::Trees {
+            pools,
+            entries,
+            trees,
+            tree,
+            owed,
+        } => grown(alloc, pools, entries, trees, tree, owed, line),
+        Draft::Over { .. } => Ok(None),
     }
 }
 

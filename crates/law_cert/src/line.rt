@@ -1,50 +1,18 @@
 ghost use Rattle.std.specs.Prelude.{◌≡◌, ℕ, List, ◌++◌, IfOk};
-ghost use Rattle.law_cert.specs.declared.cert.Dir.{Dir};
-ghost use Rattle.law_cert.specs.declared.cert.RawBind.{RawBind};
-ghost use Rattle.law_cert.specs.Words.{Exact, IsMove, move_text};
-ghost use Rattle.law_cert.specs.declared.line.Key.TheVariants as k;
-ghost use Rattle.law_cert.specs.CertLines.{LineRead, TailRead, key_in, key_of, key_text, later_keys};
+ghost use Rattle.law_sig.specs.declared.chain.Dir.{Dir};
+ghost use Rattle.law_cert_text.specs.declared.cert.RawBind.{RawBind};
+ghost use Rattle.law_cert_text.specs.Words.{Exact, IsMove, move_text};
+ghost use Rattle.law_cert_text.specs.declared.line.Key.TheVariants as k;
+ghost use Rattle.law_cert_text.specs.CertLines.{LineRead, TailRead, key_in, key_of, key_text, later_keys};
 
-use crate::cert::{Dir, Entry, RawBind, RawStep, RawValues, TreeLine};
 use crate::part::{
     alone, binds, first_word, last_name, last_number, next_dir, next_mark, next_number, next_pos,
     numbers, owned, same, sides,
 };
+use law_cert_text::{CertLine, Entry, Key, RawBind, RawStep, RawValues, TreeLine};
 use law_read::read_values;
-use law_sig::{NoMemory, Seq, Text};
+use law_sig::{Dir, NoMemory, Seq, Text};
 use std::alloc::Global;
-
-/// A line of a certificate behind its signature. An entry stands with the steps that were read so far;
-/// on its own line it has none.
-#[derive(Debug, Drop)]
-pub enum CertLine {
-    Pool,
-    Values(RawValues),
-    Entry(Entry),
-    Step(RawStep),
-    Tree(Text),
-    Node(TreeLine),
-    End,
-}
-
-/// The word that a line begins with.
-#[derive(Clone, Copy, Debug)]
-pub enum Key {
-    Pool,
-    Values,
-    Law,
-    Lemma,
-    Spread,
-    Killed,
-    Live,
-    Moved,
-    Step,
-    Tree,
-    Split,
-    Class,
-    Leaf,
-    End,
-}
 
 fn key_of(word: &[u8]) -> Option<Key>
     ensures { result ≡ key_of word.now }

@@ -1,21 +1,22 @@
 ghost use Rattle.std.specs.Prelude.{◌≡◌, ℕ, ◌<◌, ◌^◌, true, false, ◌≤◌, ◌++◌, List, [], ◌∷◌, Some, None, decimal, length, take, IfOk, MatchOption};
 ghost use Rattle.std.specs.List.{AllByRecursion};
 ghost use Rattle.std.specs.Str.{bytes_eq};
-ghost use Rattle.law_read.specs.declared.raw.RawTerm.{RawTerm};
-ghost use Rattle.law_read.specs.declared.want.Bounds.TheVariants.{Kept};
-ghost use Rattle.law_read.specs.Lines.{IsName, IsNumber};
-ghost use Rattle.law_read.specs.Spelling.{arg_spelling, term_spelling};
-ghost use Rattle.law_read.specs.FirstArg.{word_at};
-ghost use Rattle.law_cert.specs.declared.cert.Mark.{Mark};
-ghost use Rattle.law_cert.specs.declared.cert.Dir.{Dir};
-ghost use Rattle.law_cert.specs.declared.cert.RawBind.{RawBind};
-ghost use Rattle.law_cert.specs.Spelling.{bind_text, dir_text, dotted, mark_text, pos_text, var_text};
-ghost use Rattle.law_cert.specs.Certificates.{IsBind, IsEarned, IsIndex, IsWritten};
-ghost use Rattle.law_cert.specs.Words.{AreSides, Exact, IsBehind, IsCut, IsFirst, IsDotted, IsNextWord, NoFirst, NoSpace, alone_text, has_args, is_behind, IsArgWord, inner_level, level_above, next_level, is_undotted, row_text, sides_text};
+ghost use Rattle.law_lines.specs.declared.raw.RawTerm.{RawTerm};
+ghost use Rattle.law_lines.specs.declared.want.Bounds.TheVariants.{Kept};
+ghost use Rattle.law_lines.specs.Lines.{IsName, IsNumber};
+ghost use Rattle.law_lines.specs.Spelling.{arg_spelling, term_spelling};
+ghost use Rattle.law_lines.specs.FirstArg.{word_at};
+ghost use Rattle.law_cert_text.specs.declared.cert.Mark.{Mark};
+ghost use Rattle.law_sig.specs.declared.chain.Dir.{Dir};
+ghost use Rattle.law_cert_text.specs.declared.cert.RawBind.{RawBind};
+ghost use Rattle.law_cert_text.specs.Spelling.{bind_text, dir_text, dotted, mark_text, pos_text, var_text};
+ghost use Rattle.law_cert_text.specs.Certificates.{IsBind, IsEarned, IsIndex, IsWritten};
+ghost use Rattle.law_cert_text.specs.Words.{AreSides, Exact, IsBehind, IsCut, IsFirst, IsDotted, IsNextWord, NoFirst, NoSpace, alone_text, has_args, is_behind, IsArgWord, inner_level, level_above, next_level, is_undotted, row_text, sides_text};
 
-use crate::cert::{Dir, Mark, RawBind};
-use law_read::{RawTerm, ReadErr, read_equation, read_term};
-use law_sig::{NoMemory, Seq, Text};
+use law_cert_text::{Mark, RawBind};
+use law_lines::{RawTerm, ReadErr};
+use law_read::{read_equation, read_term};
+use law_sig::{Dir, NoMemory, Seq, Text};
 use law_text::{index, is_name, number};
 use std::alloc::Global;
 

@@ -1,16 +1,16 @@
 ghost use Rattle.std.specs.Prelude.{IfOk, IfErr};
-ghost use Rattle.law_read.specs.Signature.{IsRawSig};
+ghost use Rattle.law_lines.specs.Signature.{IsRawSig};
 ghost use Rattle.law_cert.specs.declared.phase.Phase.TheVariants as p;
-ghost use Rattle.law_cert.specs.Drafts.{IsDraft};
-ghost use Rattle.law_cert.specs.Readers.{IsPhase, IsPhaseWith};
+ghost use Rattle.law_cert_text.specs.Drafts.{IsDraft};
+ghost use Rattle.law_cert.specs.Phases.{IsPhase, IsPhaseWith};
 ghost use Rattle.law_cert.specs.Finishes.{IsFinished, NotFinished};
 
-use crate::cert::Cert;
-use crate::draft::Draft;
-use crate::error::CertErr;
+use crate::draft::with_line;
 use crate::line::read_line;
 use crate::part::same;
-use law_read::{RawSig, ReadErr, SigLines};
+use law_cert_text::{Cert, CertErr, Draft};
+use law_lines::{RawSig, ReadErr};
+use law_read::SigLines;
 use law_sig::NoMemory;
 use std::alloc::Global;
 
@@ -106,7 +106,7 @@ fn bodied(alloc: Global, sig: RawSig, draft: Draft, line: &[u8]) -> Result<Optio
 {
     match read_line(alloc, line)? {
         None => Ok(None),
-        Some(line) => match draft.with(alloc, line)? {
+        Some(line) => match with_line(alloc, draft, line)? {
             None => Ok(None),
             Some(draft) => Ok(Some(Phase::Body(sig, draft))),
         },

@@ -1,12 +1,10 @@
 ghost use Rattle.std.specs.Prelude.{◌≡◌, [], ◌∷◌, None, false, IfOk, IfErr, MatchResult};
-ghost use Rattle.law_read.specs.Texts.{IsUnbroken};
-ghost use Rattle.law_cert.specs.Readings.{HasReading};
-ghost use Rattle.law_cert.specs.Readers.{IsClosedTo, IsFed, IsOpen, IsReadAs, IsStopped, IsWhole, NotWhole, RefusedBy, Stops};
+ghost use Rattle.law_lines.specs.Texts.{IsUnbroken};
+ghost use Rattle.law_cert_text.specs.Readings.{HasReading};
+ghost use Rattle.law_cert_text.specs.Readers.{IsClosedTo, IsFed, IsOpen, IsReadAs, IsStopped, IsWhole, NotWhole, RefusedBy, Stops};
 
-use crate::cert::Cert;
-use crate::draft::Draft;
-use crate::error::CertErr;
 use crate::phase::Phase;
+use law_cert_text::{Cert, CertErr};
 use law_sig::Text;
 use std::alloc::Global;
 use std::marker::Model;
@@ -23,7 +21,8 @@ pub struct CertReader {
 }
 
 impl Model for CertReader {
-    ghost use Rattle.law_cert.specs.Readers.{Heard, IsReader, phase_lines, phase_refused, phase_starved};
+    ghost use Rattle.law_cert_text.specs.Readers.{Heard};
+    ghost use Rattle.law_cert.specs.Phases.{IsReader, phase_lines, phase_refused, phase_starved};
 
     ghost Value = { Heard };
 
@@ -134,7 +133,7 @@ impl CertReader {
 }
 
 /// The certificate that a text spells.
-#[tactic(auto, using(crate::proofs::BodyText::reads))]
+#[tactic(auto, using(law_cert_text::proofs::BodyText::reads))]
 pub fn read_cert(alloc: Global, text: &[u8]) -> Result<Cert, CertErr>
     ensures ok { IfOk result (IsReadAs text.now) }
     ensures err { IfErr result (RefusedBy text.now) }

@@ -14,7 +14,8 @@ use Rattle.law_valid.specs.declared.rule.Rule.TheVariants.{V3}
 use Rattle.law_valid.specs.Judged.{If, Valued, Tests, AtTests, Background}
 use Rattle.law_test.specs.Values.{IsValue, tests_by, val_by}
 use Rattle.law_test.proofs.Testing.{value_stays}
-use Rattle.law_check.proofs.Goes.{IsYes, tests_goes, at_tests_goes}
+use Rattle.law_checking.specs.Parts.{IsYes}
+use Rattle.law_checking.proofs.Goes.{tests_goes, at_tests_goes}
 
 -- the item at a place, and what follows it
 pub next_item : {A : Type 0} (xs : List A) (at : ℕ) (x : A) → at < length xs → x ≡ slice_index_or xs at x → drop at xs ≡ x ∷ drop (at + 1) xs

@@ -1,12 +1,1 @@
-pub mod Verdicts
-pub mod NameTables
-pub mod Counting
-pub mod Replaying
-pub mod Binds
-pub mod Steps
-pub mod Rules
-pub mod Terms
-pub mod Lines
-pub mod Once
-pub mod Splitting
-pub mod Planted
+pub mod Seeing

@@ -1,15 +1,16 @@
 ghost use Rattle.std.specs.Prelude.{IfOk, IfErr};
-ghost use Rattle.law_cert.specs.Certificates.{IsCertText};
-ghost use Rattle.law_types.specs.Typed.{IsTypedAs};
-ghost use Rattle.law_check.specs.Verdicts.{StatesNone, JudgedOver, IsVerdict, IsExact, IsCovering, IsOver};
+ghost use Rattle.law_cert_text.specs.Certificates.{IsCertText};
+ghost use Rattle.law_typing.specs.Typed.{IsTypedAs};
+ghost use Rattle.law_checking.specs.Verdicts.{StatesNone, JudgedOver, IsVerdict, IsExact, IsCovering, IsOver};
 
 use crate::counts::counted;
 use crate::judge::judge;
-use crate::verdict::{CheckErr, Verdict};
-use law_cert::Cert;
+use law_cert_text::Cert;
+use law_checking::{CheckErr, Verdict};
+use law_named::certificate_laws;
 use law_sig::{NoMemory, Sig};
 use law_types::{TypeErr, check_sig, raw_term};
-use law_valid::{Answer, Rule, certificate_laws};
+use law_valid::{Answer, Rule};
 use std::alloc::Global;
 
 /// What is said of an answer.

@@ -1,9 +1,9 @@
 ghost use Rattle.std.specs.Prelude.{◌≡◌, length};
 ghost use Rattle.std.specs.List.{filter};
-ghost use Rattle.law_check.specs.Verdicts.{counted, is_law, is_live, is_moved, is_killed};
+ghost use Rattle.law_checking.specs.Verdicts.{counted, is_law, is_live, is_moved, is_killed};
 
-use crate::verdict::Counts;
-use law_cert::Entry;
+use law_cert_text::Entry;
+use law_checking::Counts;
 
 /// How many entries there are of each kind.
 pub(crate) fn counted(entries: &[Entry]) -> Counts

@@ -2,21 +2,22 @@ ghost use Rattle.std.specs.Prelude.{◌≡◌, ◌↔◌, [], ◌+◌, length, m
 ghost use Rattle.std.specs.List.{AllByRecursion};
 ghost use Rattle.law_value.specs.Values.{Grows};
 ghost use Rattle.law_test.specs.Values.{ArePools};
-ghost use Rattle.law_cert.specs.Certificates.{IsTree};
-ghost use Rattle.law_valid.specs.Named.{sort_named};
+ghost use Rattle.law_cert_text.specs.Certificates.{IsTree};
+ghost use Rattle.law_named.specs.Named.{sort_named};
 ghost use Rattle.law_valid.specs.declared.certificate.Entry.TheVariants as e;
-ghost use Rattle.law_check.specs.Steps.{HasSeen, HasPlace, IsAnswerTo, IsAnswerAtEnd, SeesMore, AnswersAll};
+ghost use Rattle.law_checking.specs.Steps.{AnswersAll};
+ghost use Rattle.law_check.specs.Seeing.{HasSeen, HasPlace, IsPassed, IsAnswerTo, IsAnswerAtEnd, SeesMore};
 
-use crate::forest::judge_trees;
 use crate::names::Names;
 use crate::rules::{is_killed, is_lemma, is_moved};
-use crate::terms::schema;
-use crate::values::{agree, is_yes};
+use crate::values::agree;
 use law_agenda::{Agenda, Universe};
-use law_cert::{Entry as Written, SortTree};
-use law_sig::{Equation, NoMemory, Seq, SortId, Tree};
+use law_cert_text::{Entry as Written, SortTree};
+use law_forest::{is_yes, judge_trees};
+use law_replay::schema;
+use law_sig::{Equation, NoMemory, Seq, SortId, Step, Tree};
 use law_test::{TermTable, Tester};
-use law_valid::{Answer, Entry, Rule, Step};
+use law_valid::{Answer, Entry, Rule};
 use law_value::ValueBank;
 use std::alloc::Global;
 
@@ -209,14 +210,21 @@ fn copy_equation(alloc: Global, q: &Equation) -> Result<Equation, NoMemory>
     Ok(Equation { left, right })
 }
 
+fn copy_equations(alloc: Global, equations: &[Equation]) -> Result<Seq<Equation>, NoMemory>
+    ensures { IfOk result (λ copy. copy ≡ equations.now) }
+{
+    let mut copy = Seq::new(alloc);
+    for q in equations {
+        copy.push(copy_equation(alloc, q)?)?;
+    }
+    Ok(copy)
+}
+
 /// Before the first entry.
 fn before_all(alloc: Global, universe: &Universe) -> Result<Seen, NoMemory>
     ensures { IfOk result (λ seen. HasSeen universe.now [] None seen) }
 {
-    let mut known = Seq::new(alloc);
-    for q in universe.sig().settings().background.as_slice() {
-        known.push(copy_equation(alloc, q)?)?;
-    }
+    let known = copy_equations(alloc, universe.sig().settings().background.as_slice())?;
     let agenda = Agenda::new(alloc, universe)?;
     Ok(Seen {
         known,
@@ -254,6 +262,7 @@ fn with_spread(
     seen: Seen,
     schema: Tree,
 ) -> Result<Seen, NoMemory>
+    requires { IsPassed universe.now seen (e.Spread schema) }
     ensures { IfOk result (SeesMore universe.now seen (e.Spread schema)) }
 {
     let Seen {
@@ -279,6 +288,7 @@ fn with_killed(
     q: &Equation,
     steps: &[Step],
 ) -> Result<Seen, NoMemory>
+    requires { IsPassed universe.now seen (e.Killed q.now steps.now) }
     ensures { IfOk result (SeesMore universe.now seen (e.Killed q.now steps.now)) }
 {
     let Seen {
@@ -297,6 +307,7 @@ fn with_killed(
 }
 
 fn with_live(alloc: Global, universe: &Universe, seen: Seen, term: Tree) -> Result<Seen, NoMemory>
+    requires { IsPassed universe.now seen (e.Live term) }
     ensures { IfOk result (SeesMore universe.now seen (e.Live term)) }
 {
     let Seen {
@@ -322,6 +333,7 @@ fn with_moved(
     q: &Equation,
     steps: &[Step],
 ) -> Result<Seen, NoMemory>
+    requires { IsPassed universe.now seen (e.Moved q.now steps.now) }
     ensures { IfOk result (SeesMore universe.now seen (e.Moved q.now steps.now)) }
 {
     let Seen {
@@ -346,6 +358,7 @@ fn with_entry(
     seen: Seen,
     entry: Entry,
 ) -> Result<Seen, NoMemory>
+    requires { IsPassed universe.now seen entry }
     ensures { IfOk result (SeesMore universe.now seen entry) }
 {
     match entry {

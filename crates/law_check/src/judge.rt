@@ -1,14 +1,15 @@
 ghost use Rattle.std.specs.Prelude.{IfOk};
-ghost use Rattle.law_cert.specs.Certificates.{IsCertText};
+ghost use Rattle.law_cert_text.specs.Certificates.{IsCertText};
 ghost use Rattle.law_test.specs.Values.{ArePools};
-ghost use Rattle.law_check.specs.Verdicts.{JudgedOver, JudgedPools};
+ghost use Rattle.law_checking.specs.Verdicts.{JudgedOver, JudgedPools};
 
 use crate::entries::judge_entries;
 use crate::names::Names;
 use crate::pools::are_pools;
-use crate::values::{background, is_yes};
+use crate::values::background;
 use law_agenda::Universe;
-use law_cert::Cert;
+use law_cert_text::Cert;
+use law_forest::is_yes;
 use law_gen::GenErr;
 use law_pool::Pools;
 use law_sig::{NoMemory, Sig};

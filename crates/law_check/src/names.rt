@@ -1,14 +1,14 @@
 ghost use Rattle.std.specs.Prelude.{◌≡◌, [], ◌∷◌, ◌++◌, length, map, None, Some, IfOk, OnOk};
-ghost use Rattle.law_types.specs.Table.{Finds};
-ghost use Rattle.law_types.specs.TypedTerm.{tree_over, tree_of};
-ghost use Rattle.law_valid.specs.Named.{sort_named, term_named, bind_named, step_named, entry_named};
-ghost use Rattle.law_check.specs.NameTables.{noted, FindsMore};
+ghost use Rattle.law_typing.specs.Table.{Finds};
+ghost use Rattle.law_typing.specs.TypedTerm.{tree_over, tree_of};
+ghost use Rattle.law_named.specs.Named.{sort_named, term_named, bind_named, step_named, entry_named};
+ghost use Rattle.law_checking.specs.NameTables.{noted, FindsMore};
 
 use indexmap::IndexMap;
-use law_cert::{Entry as Written, RawBind, RawStep};
-use law_read::{RawHead, RawTerm};
-use law_sig::{Equation, NoMemory, Seq, Sig, SortId, SymId, Text, Tree};
-use law_valid::{Bind, Entry, Step};
+use law_cert_text::{Entry as Written, RawBind, RawStep};
+use law_lines::{RawHead, RawTerm};
+use law_sig::{Bind, Equation, NoMemory, Seq, Sig, SortId, Step, SymId, Text, Tree};
+use law_valid::Entry;
 use std::alloc::Global;
 use std::marker::Model;
 
@@ -30,7 +30,7 @@ impl<'s> Model for Names<'s> {
 
     ghost coded = { Prim.hlevel (codes, tree.the_row.coded, body.the_row.coded) };
 
-    ghost use Rattle.law_types.specs.Table.{Finds};
+    ghost use Rattle.law_typing.specs.Table.{Finds};
 
     ghost view = { λ names. names.sig.now };
 

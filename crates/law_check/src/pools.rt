@@ -1,9 +1,9 @@
 ghost use Rattle.std.specs.Prelude.{◌≡◌, ◌↔◌, map, IfOk, IsTrue};
-ghost use Rattle.law_valid.specs.Named.{term_named, values_named, pool_named, pools_named};
+ghost use Rattle.law_named.specs.Named.{term_named, values_named, pool_named, pools_named};
 
 use crate::names::Names;
-use law_cert::RawValues;
-use law_read::RawTerm;
+use law_cert_text::RawValues;
+use law_lines::RawTerm;
 use law_sig::{NoMemory, Seq, Tree};
 use std::alloc::Global;
 

@@ -4,13 +4,11 @@ ghost use Rattle.law_sig.specs.Signature.{sort_of};
 ghost use Rattle.law_sig.specs.Order.{IsBefore};
 ghost use Rattle.law_valid.specs.Judged.{HasSides};
 ghost use Rattle.law_laws.specs.Derivation.{HasOneSort};
-ghost use Rattle.law_check.specs.Rules.{TellsLemma, TellsKilled, TellsMoved};
+ghost use Rattle.law_checking.specs.Rules.{TellsLemma, TellsKilled, TellsMoved};
 
-use super::replay::replays;
-use super::terms::{compare, is_general, schema};
 use law_agenda::Universe;
-use law_sig::{Equation, NoMemory, Sig};
-use law_valid::Step;
+use law_replay::{compare, is_general, replays, schema};
+use law_sig::{Equation, NoMemory, Sig, Step};
 use std::alloc::Global;
 use std::cmp::Ordering;
 

@@ -1,45 +1,15 @@
-ghost use Rattle.std.specs.Prelude.{◌≡◌, ◌<◌, ◌↔◌, None, IfOk, IsTrue, MatchOption};
+ghost use Rattle.std.specs.Prelude.{◌≡◌, ◌<◌, IfOk};
 ghost use Rattle.law_value.specs.Values.{Grows};
 ghost use Rattle.law_gen.specs.Draws.{pools_by};
 ghost use Rattle.law_valid.specs.declared.rule.Answer.TheVariants.{Yes};
 ghost use Rattle.law_valid.specs.Judged.{Tests, AtTests, Background};
-ghost use Rattle.law_test.specs.Values.{ArePools, IsTestable, IsValue, tests_by, val_by};
+ghost use Rattle.law_test.specs.Values.{ArePools, IsTestable, tests_by};
 
-use law_eval::EvalErr;
+use law_forest::{is_yes, value};
 use law_sig::{Equation, NoMemory, Tree};
 use law_test::Tester;
 use law_valid::{Answer, Rule};
-use law_value::{ValueBank, ValueId};
-
-/// The value of a term at a test, where it has one.
-pub fn value(
-    tester: &Tester,
-    bank: &mut ValueBank,
-    test: u64,
-    term: &Tree,
-) -> Result<Option<ValueId>, NoMemory>
-    requires pools { ArePools tester.now.sig.now bank.old tester.now.pools.now }
-    requires test { test < tests_by tester.now.sig.now }
-    requires term { IsTestable tester.now.sig.now term.now }
-    ensures value { IfOk result (λ found. MatchOption found (val_by tester.now.sig.now test term.now ≡ None) (IsValue tester.now.sig.now bank.new test term.now)) }
-    ensures grows { Grows bank.old bank.new }
-{
-    match tester.value(bank, test, term) {
-        Ok(found) => Ok(Some(found)),
-        Err(EvalErr::Over) => Ok(None),
-        Err(EvalErr::NoMemory) => Err(NoMemory),
-    }
-}
-
-/// Whether nothing is wrong.
-pub fn is_yes(answer: &Answer) -> bool
-    ensures { IsTrue result ↔ (answer.now ≡ Yes) }
-{
-    match answer {
-        Answer::Yes => true,
-        _ => false,
-    }
-}
+use law_value::ValueBank;
 
 /// Whether an equation holds at a test: both sides have a value, and the same one.
 fn agree_at(
@@ -72,7 +42,7 @@ fn agree_at(
 }
 
 /// Whether an equation holds at every test: by rising test, the left side before the right one, the first value that is
-/// over, or the rule where both sides have values that differ.
+/// over, or the rule where both sides have values that differ. It is asked at the own tests of their variables alone.
 pub fn agree(
     tester: &Tester,
     bank: &mut ValueBank,
@@ -86,11 +56,15 @@ pub fn agree(
     ensures answer { IfOk result (AtTests tester.now.sig.now (pools_by tester.now.sig.now) rule entry q.now (λ b. b ≡ Yes)) }
     ensures grows { Grows bank.old bank.new }
 {
-    for test in 0..tester.tests() {
+    let own = tester.own_tests(&q.left, &q.right)?;
+    let tests = tester.tests();
+    let mut test = 0;
+    while test < tests {
         let found = agree_at(tester, bank, rule, entry, q, test)?;
         if !is_yes(&found) {
             return Ok(found);
         }
+        test = own.next(test);
     }
     Ok(Answer::Yes)
 }

@@ -3,9 +3,9 @@ use Rattle.std.proofs.Common.{◌≡◌, ℕ, List, ◌++◌, Result, Ok, Err, I
 use Rattle.std.specs.Bool.{⊤}
 use Rattle.std.proofs.lemmas.List.{append_assoc}
 use Rattle.law_sig.specs.declared.seq.NoMemory.{NoMemory}
-use Rattle.law_cert.specs.declared.cert.Cert.{Cert}
-use Rattle.law_cert.specs.Readers.{HasHeard, Heard, IsReadAs, IsWhole}
-use Rattle.law_cert.proofs.Joined.{whole_text}
+use Rattle.law_cert_text.specs.declared.cert.Cert.{Cert}
+use Rattle.law_cert_text.specs.Readers.{HasHeard, Heard, IsReadAs, IsWhole}
+use Rattle.law_cert_text.proofs.Joined.{whole_text}
 use Rattle.law_cli.specs.Printed.{status_text}
 use Rattle.law_cli.specs.Answers.{Cause, IsAnswerTo, IsLawListText, IsOneOf}
 use Rattle.law_cli.specs.Checks.{CheckCause, IsCheckAnswer, IsYesText}

@@ -2,7 +2,7 @@
 use Rattle.std.proofs.Common.{◌≡◌, ◌≢◌, ◌⊎◌, inl, inr, Option, Some, None, MatchOption, Result, Ok, Err, IfOk, ℕ, ◌+◌, List, [], ◌∷◌, get_or, if◌then◌else◌, ◌==◌, refl, sym, ap, ◌∙◌, subst}
 use Rattle.law_sig.specs.declared.seq.NoMemory.{NoMemory}
 use Rattle.law_io.specs.Takings.{Taken, Grows}
-use Rattle.law_cert.specs.Readers.{HasHeard, Heard}
+use Rattle.law_cert_text.specs.Readers.{HasHeard, Heard}
 use Rattle.law_cli.specs.Commands.{AreOtherWords, AreWordsOf, IsOtherWord, most_bytes, word_of}
 use Rattle.law_cli.specs.Answers.{IsAnswerTo}
 use Rattle.law_cli.specs.Checks.{IsCheckAnswer}

@@ -1,19 +1,19 @@
 -- Each text has one answer of `check`.
 use Rattle.std.proofs.Common.{◌≡◌, ◌⊎◌, inl, inr, ℕ, List, ◌++◌, refl, sym, ap, ◌∙◌, subst}
 use Rattle.law_sig.specs.declared.parts.SigParts.{SigParts}
-use Rattle.law_read.specs.declared.raw.RawLine.{RawLine}
-use Rattle.law_cert.specs.declared.cert.Cert.{Cert}
-use Rattle.law_cert.specs.declared.error.CertErr.TheVariants as unread
-use Rattle.law_cert.specs.Laws.{OneCert, RefusedIsNone}
-use Rattle.law_cert.specs.Readers.{IsReadAs, RefusedBy}
-use Rattle.law_types.specs.Naming.{named_term}
-use Rattle.law_types.specs.Typed.{IsTypedAs}
+use Rattle.law_lines.specs.declared.raw.RawLine.{RawLine}
+use Rattle.law_cert_text.specs.declared.cert.Cert.{Cert}
+use Rattle.law_cert_text.specs.declared.error.CertErr.TheVariants as unread
+use Rattle.law_cert_text.specs.Laws.{OneCert, RefusedIsNone}
+use Rattle.law_cert_text.specs.Readers.{IsReadAs, RefusedBy}
+use Rattle.law_typing.specs.Naming.{named_term}
+use Rattle.law_typing.specs.Typed.{IsTypedAs}
 use Rattle.law_valid.specs.declared.rule.Answer.{Answer}
 use Rattle.law_valid.specs.declared.rule.Answer.TheVariants.{Yes, No, Over}
-use Rattle.law_valid.specs.Certificates.{OneCertAnswer}
-use Rattle.law_valid.specs.Named.{IsValidCert, JudgedCert}
-use Rattle.law_cert.proofs.FirstFaults.{one_first_fault}
-use Rattle.law_check.specs.Verdicts.{counted}
+use Rattle.law_named.specs.Certificates.{OneCertAnswer}
+use Rattle.law_named.specs.Named.{IsValidCert, JudgedCert}
+use Rattle.law_cert_text.proofs.FirstFaults.{one_first_fault}
+use Rattle.law_checking.specs.Verdicts.{counted}
 use Rattle.law_cli.specs.Printed.{status_text}
 use Rattle.law_cli.specs.Checks.{IsCheckAnswer, IsYesText, law_lines, yes_line}
 use Rattle.law_cli.specs.Laws.{IsGoodCertificate}

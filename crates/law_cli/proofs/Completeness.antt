@@ -2,16 +2,16 @@
 use Rattle.std.proofs.Common.{◌≡◌, ℕ, ◌≤◌, ◌⊎◌, inl, inr, List, ◌++◌, length, Option, Some, None, arith, sym, ap, ◌∙◌, subst}
 use Rattle.std.proofs.lemmas.List.{length-append, append-nil}
 use Rattle.law_io.specs.Counts.{Rose}
-use Rattle.law_read.proofs.FirstFaults.{one_fault_law}
-use Rattle.law_read.proofs.Whole.{one_text_law}
-use Rattle.law_cert.specs.declared.cert.Cert.{Cert}
-use Rattle.law_cert.proofs.NoneSpelled.{refused_is_none}
-use Rattle.law_cert.proofs.OneCert.{one_cert}
-use Rattle.law_types.proofs.OneSignature.{one_signature}
-use Rattle.law_types.proofs.TextBack.{back}
-use Rattle.law_valid.specs.Named.{entries_named, pools_named}
+use Rattle.law_places.proofs.FirstFaults.{one_fault_law}
+use Rattle.law_lines.proofs.Whole.{one_text_law}
+use Rattle.law_cert_text.specs.declared.cert.Cert.{Cert}
+use Rattle.law_cert_text.proofs.NoneSpelled.{refused_is_none}
+use Rattle.law_cert_text.proofs.OneCert.{one_cert}
+use Rattle.law_faultless.proofs.OneSignature.{one_signature}
+use Rattle.law_faultless.proofs.TextBack.{back}
+use Rattle.law_named.specs.Named.{entries_named, pools_named}
 use Rattle.law_valid.proofs.Checked.{valid_yes}
-use Rattle.law_valid.proofs.Meanings.{one_cert_answer}
+use Rattle.law_named.proofs.Meanings.{one_cert_answer}
 use Rattle.law_cli.specs.Commands.{AreWordsOf, most_bytes}
 use Rattle.law_cli.specs.Reading.{WasRead, GaveTooMany}
 use Rattle.law_cli.specs.Laws.{GoodIsDone, IsAnswer, IsGood, OneAnswer}

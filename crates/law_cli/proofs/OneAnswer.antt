@@ -5,18 +5,19 @@ use Rattle.law_sig.specs.Tests.{Pools}
 use Rattle.law_sig.specs.declared.parts.Equation.{Equation}
 use Rattle.law_sig.specs.declared.parts.SigParts.{SigParts}
 use Rattle.law_laws.proofs.Agreement.{one_law_list}
-use Rattle.law_read.specs.declared.raw.RawLine.{RawLine}
-use Rattle.law_read.specs.declared.error.ReadKind.{ReadKind}
-use Rattle.law_read.specs.Signature.{IsRawSig}
-use Rattle.law_read.specs.Texts.{IsRefused}
-use Rattle.law_read.specs.Laws.{OneText, OneFault}
-use Rattle.law_types.specs.Typed.{IsTypedAs}
-use Rattle.law_types.specs.Naming.{named_term}
-use Rattle.law_types.specs.LineFaults.{first_fault}
-use Rattle.law_types.specs.declared.errors.TypeKind.{TypeKind}
-use Rattle.law_types.specs.declared.errors.TypeErr.{TypeErr}
-use Rattle.law_types.specs.declared.errors.TypeErr.TheVariants as type_err
-use Rattle.law_cert.specs.Spelling.{list_spelling}
+use Rattle.law_lines.specs.declared.raw.RawLine.{RawLine}
+use Rattle.law_lines.specs.declared.error.ReadKind.{ReadKind}
+use Rattle.law_lines.specs.Signature.{IsRawSig}
+use Rattle.law_lines.specs.Texts.{IsRefused}
+use Rattle.law_lines.specs.Laws.{OneText}
+use Rattle.law_places.specs.Laws.{OneFault}
+use Rattle.law_typing.specs.Typed.{IsTypedAs}
+use Rattle.law_typing.specs.Naming.{named_term}
+use Rattle.law_typing.specs.LineFaults.{first_fault}
+use Rattle.law_typing.specs.declared.errors.TypeKind.{TypeKind}
+use Rattle.law_typing.specs.declared.errors.TypeErr.{TypeErr}
+use Rattle.law_typing.specs.declared.errors.TypeErr.TheVariants as type_err
+use Rattle.law_cert_text.specs.Spelling.{list_spelling}
 use Rattle.law_gen.specs.Draws.{pools_by}
 use Rattle.law_explore.specs.Refusals.{Refusal, IsRefusal}
 use Rattle.law_explore.specs.Refusals.Refusal.{Assignments, TooManyTerms, ValueTooLarge, Over, BackgroundFails}

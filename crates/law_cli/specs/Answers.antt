@@ -2,16 +2,16 @@
 use Rattle.std.specs.Prelude.{◌≡◌, ℕ, List, Some}
 use Rattle.law_sig.specs.declared.tree.SortId.{SortId}
 use Rattle.law_sig.specs.declared.parts.SigParts.{SigParts}
-use Rattle.law_read.specs.declared.raw.RawLine.{RawLine}
-use Rattle.law_read.specs.Spelling.{sig_spelling}
-use Rattle.law_read.specs.Signature.{IsRawSig}
-use Rattle.law_read.specs.Texts.{IsRefused}
-use Rattle.law_types.specs.Typed.{IsTypedAs}
-use Rattle.law_types.specs.LineFaults.{first_fault}
-use Rattle.law_types.specs.declared.errors.TypeKind.{TypeKind}
-use Rattle.law_types.specs.declared.errors.TypeErr.TheVariants as type_err
-use Rattle.law_cert.specs.declared.cert.LawList.{LawList}
-use Rattle.law_cert.specs.Spelling.{list_spelling}
+use Rattle.law_lines.specs.declared.raw.RawLine.{RawLine}
+use Rattle.law_lines.specs.Spelling.{sig_spelling}
+use Rattle.law_lines.specs.Signature.{IsRawSig}
+use Rattle.law_lines.specs.Texts.{IsRefused}
+use Rattle.law_typing.specs.Typed.{IsTypedAs}
+use Rattle.law_typing.specs.LineFaults.{first_fault}
+use Rattle.law_typing.specs.declared.errors.TypeKind.{TypeKind}
+use Rattle.law_typing.specs.declared.errors.TypeErr.TheVariants as type_err
+use Rattle.law_cert_text.specs.declared.cert.LawList.{LawList}
+use Rattle.law_cert_text.specs.Spelling.{list_spelling}
 use Rattle.law_explore.specs.Named.{IsNamedLawList}
 use Rattle.law_explore.specs.Refusals.{IsRefusal, IsTold}
 use Rattle.law_explore.specs.declared.refusal.ExploreErr.{ExploreErr}

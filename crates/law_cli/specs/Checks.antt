@@ -1,19 +1,19 @@
 -- What `check` answers to the bytes of a certificate, apart from streams and memory.
 use Rattle.std.specs.Prelude.{◌≡◌, ℕ, List, [], ◌∷◌, ◌++◌, codes, decimal}
 use Rattle.std.specs.List.{filter, flat_map}
-use Rattle.law_read.specs.declared.raw.RawTerm.{RawTerm}
-use Rattle.law_read.specs.Spelling.{text_of}
-use Rattle.law_cert.specs.declared.cert.Cert.{Cert}
-use Rattle.law_cert.specs.declared.cert.Entry.{Entry}
-use Rattle.law_cert.specs.declared.error.CertErr.TheVariants as unread
-use Rattle.law_cert.specs.Spelling.{entry_lines}
-use Rattle.law_cert.specs.Readers.{IsReadAs, RefusedBy}
+use Rattle.law_lines.specs.declared.raw.RawTerm.{RawTerm}
+use Rattle.law_lines.specs.Spelling.{text_of}
+use Rattle.law_cert_text.specs.declared.cert.Cert.{Cert}
+use Rattle.law_cert_text.specs.declared.cert.Entry.{Entry}
+use Rattle.law_cert_text.specs.declared.error.CertErr.TheVariants as unread
+use Rattle.law_cert_text.specs.Spelling.{entry_lines}
+use Rattle.law_cert_text.specs.Readers.{IsReadAs, RefusedBy}
 use Rattle.law_valid.specs.declared.rule.Answer.TheVariants.{No}
 use Rattle.law_valid.specs.declared.rule.Rule.{Rule}
-use Rattle.law_valid.specs.Named.{IsValidCert, JudgedCert}
-use Rattle.law_check.specs.declared.verdict.Counts.{Counts}
-use Rattle.law_check.specs.declared.verdict.CheckErr.TheVariants as unjudged
-use Rattle.law_check.specs.Verdicts.{is_law, counted, Covers, IsOver}
+use Rattle.law_named.specs.Named.{IsValidCert, JudgedCert}
+use Rattle.law_checking.specs.declared.verdict.Counts.{Counts}
+use Rattle.law_checking.specs.declared.verdict.CheckErr.TheVariants as unjudged
+use Rattle.law_checking.specs.Verdicts.{is_law, counted, Covers, IsOver}
 use Rattle.law_cli.specs.Answers.{IsOneOf}
 use Rattle.law_cli.specs.declared.status.FormKind.TheVariants as form
 use Rattle.law_cli.specs.declared.status.Status.{Status}

@@ -1,10 +1,10 @@
 -- Laws of answers: each text has one at most for each command, and a good text has what was asked for.
 use Rattle.std.specs.Prelude.{◌≡◌, ℕ, List, Option}
 use Rattle.law_sig.specs.declared.parts.SigParts.{SigParts}
-use Rattle.law_read.specs.declared.raw.RawLine.{RawLine}
-use Rattle.law_cert.specs.declared.cert.Cert.{Cert}
-use Rattle.law_cert.specs.Readers.{IsReadAs}
-use Rattle.law_valid.specs.Named.{IsValidCert}
+use Rattle.law_lines.specs.declared.raw.RawLine.{RawLine}
+use Rattle.law_cert_text.specs.declared.cert.Cert.{Cert}
+use Rattle.law_cert_text.specs.Readers.{IsReadAs}
+use Rattle.law_named.specs.Named.{IsValidCert}
 use Rattle.law_explore.specs.LawList.{IsWithin}
 use Rattle.law_cli.specs.Answers.{IsStated, IsAnswerTo, most_terms}
 use Rattle.law_cli.specs.Checks.{IsCheckAnswer}

@@ -1,10 +1,10 @@
 -- The lines that the program prints in place of what was asked for.
 use Rattle.std.specs.Prelude.{ℕ, List, [], ◌∷◌, ◌++◌, decimal, codes}
-use Rattle.law_read.specs.Spelling.{term_spelling}
-use Rattle.law_read.specs.declared.error.ReadKind.{ReadKind}
-use Rattle.law_read.specs.declared.error.ReadKind.TheVariants as read
-use Rattle.law_types.specs.declared.errors.TypeKind.{TypeKind}
-use Rattle.law_types.specs.declared.errors.TypeKind.TheVariants as fault
+use Rattle.law_lines.specs.Spelling.{term_spelling}
+use Rattle.law_lines.specs.declared.error.ReadKind.{ReadKind}
+use Rattle.law_lines.specs.declared.error.ReadKind.TheVariants as read
+use Rattle.law_typing.specs.declared.errors.TypeKind.{TypeKind}
+use Rattle.law_typing.specs.declared.errors.TypeKind.TheVariants as fault
 use Rattle.law_valid.specs.declared.rule.Rule.{Rule}
 use Rattle.law_valid.specs.declared.rule.Rule.TheVariants as rule
 use Rattle.law_cli.specs.declared.status.FormKind.{FormKind}

@@ -1,7 +1,7 @@
 -- What reading the whole input gives.
 use Rattle.std.specs.Prelude.{◌≡◌, ℕ, suc, ◌≤◌, List, length, Option}
 use Rattle.std.specs.Io.KnownBytes.{Consumes, IsAtEnd}
-use Rattle.law_cert.specs.Readers.{HasHeard}
+use Rattle.law_cert_text.specs.Readers.{HasHeard}
 use Rattle.law_cli.specs.Commands.{most_bytes}
 use Rattle.law_cli.specs.declared.command.Command.{Command}
 use Rattle.law_cli.specs.declared.command.Command.TheVariants as command

@@ -1,7 +1,7 @@
 ghost use Rattle.std.specs.Prelude.{◌≡◌, ℕ, List, [], ◌∷◌, ◌++◌, IfOk, OnOk};
 ghost use Rattle.std.specs.List.{AllByRecursion};
-ghost use Rattle.law_cert.specs.Certificates.{IsCertText, IsEntry};
-ghost use Rattle.law_cert.specs.Readers.{HasHeard, IsReadAs};
+ghost use Rattle.law_cert_text.specs.Certificates.{IsCertText, IsEntry};
+ghost use Rattle.law_cert_text.specs.Readers.{HasHeard, IsReadAs};
 ghost use Rattle.law_cli.specs.Checks.{IsCheckAnswer, law_lines, yes_line};
 
 use crate::plain::{Answer, refusal};

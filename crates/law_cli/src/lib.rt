@@ -14,8 +14,3 @@ mod top;
 pub use laws::answer_laws;
 pub use status::{FormKind, Status, Which, code, status_line};
 pub use top::run;
-
-#[cfg(test)]
-mod check_tests;
-#[cfg(test)]
-mod tests;

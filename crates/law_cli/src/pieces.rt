@@ -1,5 +1,5 @@
 ghost use Rattle.std.specs.Prelude.{◌≡◌, ℕ, ◌++◌, [], List, OnOk};
-ghost use Rattle.law_cert.specs.Readers.{HasHeard};
+ghost use Rattle.law_cert_text.specs.Readers.{HasHeard};
 ghost use Rattle.law_cli.specs.Reading.{StandsFor};
 ghost use Rattle.law_cli.specs.declared.command.Command.{Command};
 

@@ -1,7 +1,7 @@
 ghost use Rattle.std.specs.Prelude.{◌≡◌, ℕ, List, IfOk};
-ghost use Rattle.law_read.specs.Spelling.{sig_spelling};
-ghost use Rattle.law_read.specs.Signature.{IsRawSig};
-ghost use Rattle.law_types.specs.Typed.{IsTypedAs};
+ghost use Rattle.law_lines.specs.Spelling.{sig_spelling};
+ghost use Rattle.law_lines.specs.Signature.{IsRawSig};
+ghost use Rattle.law_typing.specs.Typed.{IsTypedAs};
 ghost use Rattle.law_cli.specs.Answers.{Cause, IsAnswerTo, IsStated, IsRefusedFor};
 ghost use Rattle.law_cli.specs.Printed.{status_text};
 

@@ -24,31 +24,31 @@ use Rattle.law_sig.specs.declared.parts.SigParts.{SigParts}
 use Rattle.law_laws.proofs.ListFacts.{each_map}
 use Rattle.law_laws.proofs.Sorts.{HaveSorts, sorted_app, sorted_var, both_true}
 use Rattle.law_laws.proofs.TreeFacts.{tree_induct, fold-Var, fold-App, nodes-Var, nodes-App, depth-Var, depth-App, weight-Var, weight-App, bounded-Var}
-use Rattle.law_read.specs.Terms.{IsTerm, is_name_in, is_empty, head_fits, node_fits, nodes_fit}
-use Rattle.law_read.specs.Terms as raw
-use Rattle.law_read.specs.Lines.{AreValues}
-use Rattle.law_read.specs.Signature.{IsRawSig}
-use Rattle.law_read.specs.declared.want.Bounds.TheVariants.{Kept}
-use Rattle.law_read.specs.declared.want.Place.{Place}
-use Rattle.law_read.specs.declared.want.Place.TheVariants.{Equation as Side, Body, Value}
-use Rattle.law_read.specs.declared.raw.RawHead.{RawHead}
-use Rattle.law_read.specs.declared.raw.RawHead.TheVariants as head
-use Rattle.law_read.specs.declared.raw.RawTerm.{RawTerm}
-use Rattle.law_read.specs.declared.raw.RawTerm.TheOpen.{RawTerm-F}
-use Rattle.law_read.specs.declared.raw.RawTerm.TheFolds.{fold-roll-RawTerm}
-use Rattle.law_read.specs.declared.raw.RawLine.{RawLine}
-use Rattle.law_types.specs.Naming.{sort_name, symbol_name, raw_term, named_term, name_step}
-use Rattle.law_types.specs.Typed.{HasFewSorts}
-use Rattle.law_types.proofs.Spelled.{name_same, named_nodes, named_depth}
+use Rattle.law_lines.specs.Terms.{IsTerm, is_name_in, is_empty, head_fits, node_fits, nodes_fit}
+use Rattle.law_lines.specs.Terms as raw
+use Rattle.law_lines.specs.Lines.{AreValues}
+use Rattle.law_lines.specs.Signature.{IsRawSig}
+use Rattle.law_lines.specs.declared.want.Bounds.TheVariants.{Kept}
+use Rattle.law_lines.specs.declared.want.Place.{Place}
+use Rattle.law_lines.specs.declared.want.Place.TheVariants.{Equation as Side, Body, Value}
+use Rattle.law_lines.specs.declared.raw.RawHead.{RawHead}
+use Rattle.law_lines.specs.declared.raw.RawHead.TheVariants as head
+use Rattle.law_lines.specs.declared.raw.RawTerm.{RawTerm}
+use Rattle.law_lines.specs.declared.raw.RawTerm.TheOpen.{RawTerm-F}
+use Rattle.law_lines.specs.declared.raw.RawTerm.TheFolds.{fold-roll-RawTerm}
+use Rattle.law_lines.specs.declared.raw.RawLine.{RawLine}
+use Rattle.law_typing.specs.Naming.{sort_name, symbol_name, raw_term, named_term, name_step}
+use Rattle.law_typing.specs.Typed.{HasFewSorts}
+use Rattle.law_typing.proofs.Spelled.{name_same, named_nodes, named_depth}
 use Rattle.law_pool.proofs.GivenFacts.{have_count}
 use Rattle.law_gen.specs.Draws.{choices, chosen, Drawn, in_turn, value_drawn, values_drawn, sorts_of, pool_drawn, generator_of, pools_from, pools_by}
 use Rattle.law_gen.specs.Sizes.{AreSmall}
 use Rattle.law_gen.proofs.DrawFacts.{above_zero, chosen_within, drawing, in_turn_length}
 use Rattle.law_gen.proofs.First.{length_first}
 use Rattle.law_gen.proofs.PoolFacts.{pools_count}
-use Rattle.law_cert.specs.declared.cert.LawList.{LawList}
-use Rattle.law_cert.specs.Certificates.{IsWritten, IsValues, IsPlainLaw, IsListText}
-use Rattle.law_cert.specs.Certificates as text
+use Rattle.law_cert_text.specs.declared.cert.LawList.{LawList}
+use Rattle.law_cert_text.specs.Certificates.{IsWritten, IsValues, IsPlainLaw, IsListText}
+use Rattle.law_cert_text.specs.Certificates as text
 use Rattle.law_explore.specs.Refusals.{HasSmallValues}
 use Rattle.law_explore.specs.Named.{named_values, named_pools, named_laws, named_list, HasFewLaws}
 

@@ -4,14 +4,14 @@ use Rattle.law_sig.specs.Tests.{Pools}
 use Rattle.law_sig.specs.declared.tree.Tree.{Tree}
 use Rattle.law_sig.specs.declared.parts.Equation.{Equation}
 use Rattle.law_sig.specs.declared.parts.SigParts.{SigParts}
-use Rattle.law_read.specs.declared.raw.RawLine.{RawLine}
-use Rattle.law_types.specs.Naming.{sort_name, named_term}
-use Rattle.law_cert.specs.declared.cert.RawValues.{RawValues}
-use Rattle.law_cert.specs.declared.cert.Entry.{Entry}
-use Rattle.law_cert.specs.declared.cert.Entry.TheVariants.{Law}
-use Rattle.law_cert.specs.declared.cert.Mark.TheVariants.{Plain}
-use Rattle.law_cert.specs.declared.cert.LawList.{LawList}
-use Rattle.law_cert.specs.Certificates.{IsListText}
+use Rattle.law_lines.specs.declared.raw.RawLine.{RawLine}
+use Rattle.law_typing.specs.Naming.{sort_name, named_term}
+use Rattle.law_cert_text.specs.declared.cert.RawValues.{RawValues}
+use Rattle.law_cert_text.specs.declared.cert.Entry.{Entry}
+use Rattle.law_cert_text.specs.declared.cert.Entry.TheVariants.{Law}
+use Rattle.law_cert_text.specs.declared.cert.Mark.TheVariants.{Plain}
+use Rattle.law_cert_text.specs.declared.cert.LawList.{LawList}
+use Rattle.law_cert_text.specs.Certificates.{IsListText}
 use Rattle.law_explore.specs.LawList.{IsLawListOf}
 
 -- the values of the sorts from this number on

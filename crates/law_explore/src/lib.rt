@@ -18,6 +18,3 @@ pub use firsts::first_same;
 pub use laws::equations;
 pub use listed::{plain, refusal_laws};
 pub use refusal::ExploreErr;
-
-#[cfg(test)]
-mod tests;

@@ -1,16 +1,16 @@
 ghost use Rattle.std.specs.Prelude.{◌≡◌, ◌+◌, ◌^◌, ◌<◌, ◌↔◌, length, map, IfOk, IsTrue};
 ghost use Rattle.law_sig.specs.Lists.{Each};
 ghost use Rattle.law_sig.specs.Laws.{IsLaw};
-ghost use Rattle.law_read.specs.Signature.{IsRawSig};
-ghost use Rattle.law_types.specs.Naming.{named_term};
-ghost use Rattle.law_types.specs.Typed.{HasFewSorts};
+ghost use Rattle.law_lines.specs.Signature.{IsRawSig};
+ghost use Rattle.law_typing.specs.Naming.{named_term};
+ghost use Rattle.law_typing.specs.Typed.{HasFewSorts};
 ghost use Rattle.law_gen.specs.Draws.{pools_by};
-ghost use Rattle.law_cert.specs.Certificates.{IsListText};
+ghost use Rattle.law_cert_text.specs.Certificates.{IsListText};
 ghost use Rattle.law_explore.specs.Refusals.{HasSmallValues};
 ghost use Rattle.law_explore.specs.Named.{HasFewLaws, named_laws, named_list, named_pools, named_values};
 
-use law_cert::{Entry, LawList, Mark, RawValues};
-use law_read::{RawSig, RawTerm};
+use law_cert_text::{Entry, LawList, Mark, RawValues};
+use law_lines::{RawSig, RawTerm};
 use law_sig::{Equation, NoMemory, Seq, Sig, SortId, Tree};
 use law_types::{name_of_sort, raw_term};
 use std::alloc::Global;

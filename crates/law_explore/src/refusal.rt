@@ -1,6 +1,6 @@
 ghost use Rattle.law_explore.specs.Refusals.{IsOver};
 
-use law_read::RawTerm;
+use law_lines::RawTerm;
 use law_sig::{NoMemory, Sig, SortId, Tree};
 use law_types::raw_term;
 use std::alloc::Global;

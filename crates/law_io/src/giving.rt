@@ -1,5 +1,5 @@
-// The next bytes of a list in memory.
-ghost use Rattle.std.specs.Prelude.{◌≡◌, ◌+◌, ◌-◌, ◌<◌, ◌≤◌, ◌++◌, [], take, drop, length};
+// The next bytes of a list in memory, and bytes into room that is there.
+ghost use Rattle.std.specs.Prelude.{◌≡◌, ◌+◌, ◌-◌, ◌<◌, ◌≤◌, ◌++◌, [], take, drop, length, vec_len, vec_capacity};
 ghost use Rattle.law_io.specs.Portions.{portion};
 
 // Copies the next of `bytes`, from `at` on, into the front of `buf`: as many as `step`, the room of
@@ -22,4 +22,16 @@ fn copy_front(from: &[u8], step: usize, to: &mut [u8]) -> usize
     let count = step.min(to.len()).min(from.len());
     to[..count].copy_from_slice(&from[..count]);
     count
+}
+
+// Puts `bytes` behind those of `kept`, which has room for them.
+pub fn put_reserved(kept: &mut Vec<u8>, bytes: &[u8])
+    requires { vec_len kept.old + length bytes.now ≤ vec_capacity kept.old }
+    ensures items { kept.new.items ≡ kept.old.items ++ bytes.now }
+    ensures len { vec_len kept.new ≡ vec_len kept.old + length bytes.now }
+    ensures capacity { vec_capacity kept.new ≡ vec_capacity kept.old }
+{
+    for byte in bytes {
+        kept.push_reserved(*byte);
+    }
 }

@@ -13,6 +13,3 @@ pub use memory::{MemSink, MemSource};
 pub use pushing::push_all;
 pub use streams::{Failed, Sink, Source};
 pub use sure::{SureSink, SureSource};
-
-#[cfg(test)]
-mod tests;

@@ -2,7 +2,7 @@
 ghost use Rattle.law_io.specs.Takings.Taken.{Told};
 ghost use Rattle.std.specs.Prelude.{◌≡◌, ℕ, ◌+◌, ◌-◌, ◌<◌, ◌≤◌, ◌++◌, ◌⊎◌, [], Some, drop, take, length, IfOk, OnErr, IsErr, IsTrue, ◌↔◌, Contains, vec_len, vec_capacity};
 
-use crate::giving::give;
+use crate::giving::{give, put_reserved};
 use crate::streams::{Failed, Sink, Source};
 use std::alloc::{AllocError, Global};
 
@@ -176,7 +176,7 @@ impl Sink for MemSink {
 
         ensures call { self.new.calls ≡ next_count self.old.calls }
         ensures counted { OnErr result (self.new.count ≡ next_count self.old.count) }
-        ensures room { vec_capacity self.old.bytes ≤ vec_capacity self.new.bytes }
+        ensures room { vec_capacity self.new.bytes ≡ vec_capacity self.old.bytes }
         ensures kept { (self.new.step ≡ self.old.step) × (self.new.fail_calls ≡ self.old.fail_calls) }
     {
         let call = self.calls;
@@ -187,7 +187,7 @@ impl Sink for MemSink {
             self.count = self.count.saturating_add(1);
             return Err(Failed);
         }
-        self.bytes.extend_from_slice(&piece[..count]).unwrap();
+        put_reserved(&mut self.bytes, &piece[..count]);
         Ok(count)
     }
 }

@@ -2,7 +2,7 @@
 ghost use Rattle.law_io.specs.Takings.Taken.{Told};
 ghost use Rattle.std.specs.Prelude.{◌≡◌, ℕ, ◌+◌, ◌-◌, ◌<◌, ◌≤◌, ◌++◌, [], Some, Ok, drop, take, length, min, IfOk, vec_len, vec_capacity};
 
-use crate::giving::give;
+use crate::giving::{give, put_reserved};
 use crate::streams::{Failed, Sink, Source};
 use std::alloc::{AllocError, Global};
 
@@ -136,12 +136,12 @@ impl Sink for SureSink {
             self.new.bytes.items ≡ self.old.bytes.items ++ take (min room self.old.step) piece.now }
         ensures counted { let room = places self.old.more (vec_capacity self.old.bytes) (vec_len self.old.bytes) in
             self.new.more ≡ count_on self.old.more (min self.old.step (length piece.now) - room) }
-        ensures room { vec_capacity self.old.bytes ≤ vec_capacity self.new.bytes }
+        ensures room { vec_capacity self.new.bytes ≡ vec_capacity self.old.bytes }
         ensures step { self.new.step ≡ self.old.step }
     {
         let count = self.step.min(piece.len());
         let kept = count.min(self.room());
-        self.bytes.extend_from_slice(&piece[..kept]).unwrap();
+        put_reserved(&mut self.bytes, &piece[..kept]);
         self.more = self.more.saturating_add((count - kept) as u64);
         Ok(count)
     }

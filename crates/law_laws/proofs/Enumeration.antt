@@ -5,9 +5,9 @@ use Rattle.law_sig.specs.Lists.{In, Each, total}
 use Rattle.law_sig.specs.Lists.In.{here, there}
 use Rattle.law_sig.specs.Trees.{joined}
 use Rattle.law_sig.specs.Signature.{symbol_at, args_of, sort_of}
-use Rattle.law_sig.specs.Tests.{weight, is_bounded, InU, first_of, per_variable, Pools, Same, IsDefined, IsInBudget}
+use Rattle.law_sig.specs.Tests.{weight, is_bounded, InU, first_of, per_variable, Pools, test_count, val, Same, IsInBudget}
 use Rattle.law_sig.specs.Order.{IsBefore}
-use Rattle.law_sig.specs.Laws.{IsToldApart, IsCovered, IsLeast, IsLawList}
+use Rattle.law_sig.specs.Laws.{IsCovered, IsLeast, IsLawList}
 use Rattle.law_sig.specs.WellFormed.{IsWellFormed}
 use Rattle.law_sig.specs.declared.tree.SortId.{SortId}
 use Rattle.law_sig.specs.declared.tree.SymId.{SymId}
@@ -20,10 +20,10 @@ use Rattle.law_sig.specs.contracts.tree.SortId as sort_id
 use Rattle.law_laws.specs.Orders.{WeighsSomething}
 use Rattle.law_laws.proofs.TreeFacts.{tree_induct, weight-Var, weight-App}
 use Rattle.law_laws.proofs.ListFacts.{in_left, in_right, in_map, in_none, in_rest}
-use Rattle.law_laws.proofs.Decide.{decided}
+use Rattle.law_laws.proofs.Decide.{decided, values_decided, below_decided}
 use Rattle.law_laws.proofs.Orders.{before_chain, before_decided}
 use Rattle.law_laws.proofs.Agreement.{same_itself}
-use Rattle.law_laws.proofs.Coverage.{same_decided, covers}
+use Rattle.law_laws.proofs.Coverage.{covers}
 use Rattle.law_laws.proofs.Descents.{weighs_something}
 use Rattle.law_laws.proofs.Universe.{AreInU, in_var, in_app, listed_in}
 
@@ -128,83 +128,86 @@ in_decided parts sort t = by (decided (coded_option (sort_id.the_row).coded) (so
     by (inl e) (inr k) h = inr (λ u. k u.bounded)
     by (inl e) (inl k) (inr h) = inr (λ u. let l = u.small in omega arith)
 
--- The least of a list
+-- The least
 
-pub record IsLeastOf (parts : SigParts) (pools : Pools) (sort : SortId) (t : Tree) (ts : List Tree) (u : Tree) : Type 0 where
-  pub bounded : InU parts sort u
-  pub same : Same parts pools t u
-  pub least : (w : Tree) → In w ts → InU parts sort w → Same parts pools t w → (w ≡ u) ⊎ IsBefore parts u w
+-- of the things that have a property, the first one of a list and of one that is known
+pub record IsFirstOf {A : Type 0} (R : A → A → Type 0) (P : A → Type 0) (ts : List A) (u : A) : Type 0 where
+  pub has : P u
+  pub least : (w : A) → In w ts → P w → (w ≡ u) ⊎ R u w
 
-module _ (parts : SigParts) (pools : Pools) (sort : SortId) (defined : (t : Tree) → InU parts sort t → IsDefined parts pools t) (t : Tree) (t_in : InU parts sort t) where
-  -- the least so far stays, where the next term is no candidate, or stands behind it
-  stays : (x : Tree) (ts : List Tree) (u : Tree) → IsLeastOf parts pools sort t ts u
-      → (InU parts sort x → Same parts pools t x → (x ≡ u) ⊎ IsBefore parts u x) → IsLeastOf parts pools sort t (x ∷ ts) u
-  stays x ts u l behind = record { bounded = l.bounded; same = l.same; least = λ w at w_in same. by w w_in same (in_rest at) }
-    where
-      by : (w : Tree) → InU parts sort w → Same parts pools t w → (w ≡ x) ⊎ In w ts → (w ≡ u) ⊎ IsBefore parts u w
-      by w w_in same (inl e) = subst (λ z. InU parts sort z → Same parts pools t z → (z ≡ u) ⊎ IsBefore parts u z) (sym e) behind w_in same
-      by w w_in same (inr at) = l.least w at w_in same
-
-  -- the next term is the least, where it stands before the least so far
-  falls : (x : Tree) (ts : List Tree) (u : Tree) → IsLeastOf parts pools sort t ts u → InU parts sort x → Same parts pools t x → IsBefore parts x u
-      → IsLeastOf parts pools sort t (x ∷ ts) x
-  falls x ts u l x_in x_same before = record { bounded = x_in; same = x_same; least = λ w at w_in same. by w w_in same (in_rest at) }
-    where
-      then : (w : Tree) → (w ≡ u) ⊎ IsBefore parts u w → (w ≡ x) ⊎ IsBefore parts x w
-      then w (inl e) = inr (subst (IsBefore parts x) (sym e) before)
-      then w (inr h) = inr (before_chain parts x u w before h)
-
-      by : (w : Tree) → InU parts sort w → Same parts pools t w → (w ≡ x) ⊎ In w ts → (w ≡ x) ⊎ IsBefore parts x w
-      by w w_in same (inl e) = inl e
-      by w w_in same (inr at) = then w (l.least w at w_in same)
-
-  one_more : (x : Tree) (ts : List Tree) → (u : Tree) × IsLeastOf parts pools sort t ts u → (u : Tree) × IsLeastOf parts pools sort t (x ∷ ts) u
-  one_more x ts (u, l) = by (in_decided parts sort x)
-    where
-      ordered : InU parts sort x → Same parts pools t x → (x ≡ u) ⊎ (IsBefore parts x u ⊎ IsBefore parts u x) → (u : Tree) × IsLeastOf parts pools sort t (x ∷ ts) u
-      ordered x_in same (inl e) = (u, stays x ts u l (λ _ _. inl e))
-      ordered x_in same (inr (inl h)) = (x, falls x ts u l x_in same h)
-      ordered x_in same (inr (inr h)) = (u, stays x ts u l (λ _ _. inr h))
-
-      apart : IsToldApart parts pools t x → Same parts pools t x → ⊥
-      apart a same = a.differ (one a.left a.right (sym a.left_value ∙ same a.test a.within ∙ a.right_value))
-        where
-          one : (v w : Tree) → ◌≡◌ {A = Option Tree} (Some v) (Some w) → v ≡ w
-          one v w e = cc
-
-      compared : InU parts sort x → IsToldApart parts pools t x ⊎ Same parts pools t x → (u : Tree) × IsLeastOf parts pools sort t (x ∷ ts) u
-      compared x_in (inl a) = (u, stays x ts u l (λ _ same. absurd (apart a same)))
-      compared x_in (inr same) = ordered x_in same (before_decided parts x u)
-
-      by : InU parts sort x ⊎ (InU parts sort x → ⊥) → (u : Tree) × IsLeastOf parts pools sort t (x ∷ ts) u
-      by (inl x_in) = compared x_in (same_decided parts pools t x (defined t t_in) (defined x x_in))
-      by (inr out) = (u, stays x ts u l (λ x_in _. absurd (out x_in)))
-
-  least_of : (ts : List Tree) → (u : Tree) × IsLeastOf parts pools sort t ts u
-  least_of [] = (t, record { bounded = t_in; same = same_itself parts pools t; least = λ w at w_in same. in_none at })
-  least_of (x ∷ ts) = one_more x ts (least_of ts)
-
--- each term of the universe has a least
-pub has_least : (parts : SigParts) (pools : Pools) → WeighsSomething parts → (sort : SortId) → ((t : Tree) → InU parts sort t → IsDefined parts pools t)
-    → (t : Tree) → InU parts sort t → (u : Tree) × IsLeast parts pools sort t u
-has_least parts pools weighs sort defined t t_in = by (least_of parts pools sort defined t t_in (candidates parts parts.settings.size))
+-- it exists where the order is total and it can be told what has the property
+pub first_of_some : {A : Type 0} (R : A → A → Type 0) → ((x y z : A) → R x y → R y z → R x z) → ((x y : A) → (x ≡ y) ⊎ (R x y ⊎ R y x))
+    → (P : A → Type 0) → ((x : A) → P x ⊎ (P x → ⊥)) → (t : A) → P t → (ts : List A) → (u : A) × IsFirstOf R P ts u
+first_of_some R chain total P decide t holds [] = (t, record { has = holds; least = λ w at has. in_none at })
+first_of_some {A} R chain total P decide t holds (x ∷ ts) = by (first_of_some R chain total P decide t holds ts) (decide x)
   where
-    by : (u : Tree) × IsLeastOf parts pools sort t (candidates parts parts.settings.size) u → (u : Tree) × IsLeast parts pools sort t u
-    by (u, l) = (
+    -- the first one so far stays, where the next thing is no candidate, or stands behind it
+    stays : (u : A) → IsFirstOf R P ts u → (P x → (x ≡ u) ⊎ R u x) → (v : A) × IsFirstOf R P (x ∷ ts) v
+    stays u f behind = (u, record { has = f.has; least = λ w at has. at_one w has (in_rest at) })
+      where
+        at_one : (w : A) → P w → (w ≡ x) ⊎ In w ts → (w ≡ u) ⊎ R u w
+        at_one w has (inl e) = subst (λ z. P z → (z ≡ u) ⊎ R u z) (sym e) behind has
+        at_one w has (inr at) = f.least w at has
+
+    -- the next thing is the first one, where it stands before the first one so far
+    falls : (u : A) → IsFirstOf R P ts u → P x → R x u → (v : A) × IsFirstOf R P (x ∷ ts) v
+    falls u f holds_x before = (x, record { has = holds_x; least = λ w at has. at_one w has (in_rest at) })
+      where
+        then : (w : A) → (w ≡ u) ⊎ R u w → (w ≡ x) ⊎ R x w
+        then w (inl e) = inr (subst (R x) (sym e) before)
+        then w (inr h) = inr (chain x u w before h)
+
+        at_one : (w : A) → P w → (w ≡ x) ⊎ In w ts → (w ≡ x) ⊎ R x w
+        at_one w has (inl e) = inl e
+        at_one w has (inr at) = then w (f.least w at has)
+
+    ordered : (u : A) → IsFirstOf R P ts u → P x → (x ≡ u) ⊎ (R x u ⊎ R u x) → (v : A) × IsFirstOf R P (x ∷ ts) v
+    ordered u f holds_x (inl e) = stays u f (λ _. inl e)
+    ordered u f holds_x (inr (inl h)) = falls u f holds_x h
+    ordered u f holds_x (inr (inr h)) = stays u f (λ _. inr h)
+
+    by : (u : A) × IsFirstOf R P ts u → P x ⊎ (P x → ⊥) → (v : A) × IsFirstOf R P (x ∷ ts) v
+    by (u, f) (inl holds_x) = ordered u f holds_x (total x u)
+    by (u, f) (inr out) = stays u f (λ holds_x. absurd (out holds_x))
+
+pub same_or_not : (parts : SigParts) (pools : Pools) (s t : Tree) → Same parts pools s t ⊎ (Same parts pools s t → ⊥)
+same_or_not parts pools s t = by (below_decided _ _ (λ test. values_decided (val parts pools test s) (val parts pools test t)) (test_count parts pools))
+  where
+    by : Same parts pools s t ⊎ ((test : ℕ) × (test < test_count parts pools) × (val parts pools test s ≡ val parts pools test t → ⊥)) → Same parts pools s t ⊎ (Same parts pools s t → ⊥)
+    by (inl same) = inl same
+    by (inr apart) = inr (λ same. apart.2 (same apart.0 apart.1))
+
+-- each term of the universe has a least, whatever is over budget
+pub has_least : (parts : SigParts) (pools : Pools) → WeighsSomething parts → (sort : SortId) (t : Tree) → InU parts sort t → (u : Tree) × IsLeast parts pools sort t u
+has_least parts pools weighs sort t t_in =
+    by (first_of_some (IsBefore parts) (before_chain parts) (before_decided parts) Is is_decided t (t_in, same_itself parts pools t) (candidates parts parts.settings.size))
+  where
+    Is : Tree → Type 0
+    Is x = InU parts sort x × Same parts pools t x
+
+    is_decided : (x : Tree) → Is x ⊎ (Is x → ⊥)
+    is_decided x = both (in_decided parts sort x) (same_or_not parts pools t x)
+      where
+        both : InU parts sort x ⊎ (InU parts sort x → ⊥) → Same parts pools t x ⊎ (Same parts pools t x → ⊥) → Is x ⊎ (Is x → ⊥)
+        both (inl h) (inl k) = inl (h, k)
+        both (inl h) (inr k) = inr (λ is. k is.1)
+        both (inr h) k = inr (λ is. h is.0)
+
+    by : (u : Tree) × IsFirstOf (IsBefore parts) Is (candidates parts parts.settings.size) u → (u : Tree) × IsLeast parts pools sort t u
+    by (u, f) = (
       u,
       record {
         sorted = t_in.sorted;
-        bounded = l.bounded;
-        same = l.same;
-        least = λ w w_in same. l.least w (found parts weighs w parts.settings.size sort w_in w_in.small) w_in same;
+        bounded = f.has.0;
+        same = f.has.1;
+        least = λ w w_in same. f.least w (found parts weighs w parts.settings.size sort w_in w_in.small) (w_in, same);
       },
     )
 
-pub least_exists : (parts : SigParts) (pools : Pools) → IsWellFormed parts → IsInBudget parts pools
-    → (sort : SortId) (t : Tree) → InU parts sort t → (u : Tree) × IsLeast parts pools sort t u
-least_exists parts pools well budget sort t t_in = has_least parts pools (weighs_something parts well) sort (budget.terms sort) t t_in
+pub least_exists : (parts : SigParts) (pools : Pools) → IsWellFormed parts → (sort : SortId) (t : Tree) → InU parts sort t → (u : Tree) × IsLeast parts pools sort t u
+least_exists parts pools well = has_least parts pools (weighs_something parts well)
 
 -- so the law list covers
 pub list_covers : (parts : SigParts) (pools : Pools) (laws : List Equation) → IsWellFormed parts → IsInBudget parts pools
     → IsLawList parts pools laws → IsCovered parts pools laws
-list_covers parts pools laws well budget listed = covers parts pools laws listed budget.terms (least_exists parts pools well budget)
+list_covers parts pools laws well budget listed = covers parts pools laws listed budget.terms (least_exists parts pools well)

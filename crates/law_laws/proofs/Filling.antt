@@ -9,7 +9,7 @@ use Rattle.law_sig.specs.declared.tree.Tree.{Tree}
 use Rattle.law_sig.specs.declared.tree.Tree.TheVariants.{Var, App}
 use Rattle.law_sig.specs.declared.parts.SigParts.{SigParts}
 use Rattle.law_laws.specs.Renaming.{Renames, renamed, has_vars}
-use Rattle.law_laws.specs.Filling.{IsNumbered, filling}
+use Rattle.law_sig.specs.General.{IsNumbered, filling}
 use Rattle.law_laws.proofs.TreeFacts.{tree_induct, tree_cases, same_var, same_app, var_no_app, schema-Var, schema-App, holes-Var, holes-App, substituted-Var, substituted-App}
 use Rattle.law_laws.proofs.Descents.{at_any_place}
 use Rattle.law_laws.proofs.Sorts.{same_sort_is, same_sort_itself}

@@ -18,3 +18,6 @@ pub mod Inversion
 pub mod Filling
 pub mod Spelled
 pub mod Listed
+pub mod Chains
+pub mod Considering
+pub mod Walks

@@ -1,7 +1,8 @@
--- Facts about standing in a list, holding of each item, and lists joined.
-use Rattle.std.proofs.Common.{◌≡◌, refl, ap, List, [], ◌∷◌, ◌++◌, ◌⊎◌, map, inl, inr}
-use Rattle.law_sig.specs.Lists.{In, Each}
+-- Facts about standing in a list, holding of each item, lists joined, lists that rise, and items by number.
+use Rattle.std.proofs.Common.{◌≡◌, ℕ, zero, suc, Some, refl, ap, subst, List, [], ◌∷◌, ◌++◌, ◌⊎◌, map, inl, inr}
+use Rattle.law_sig.specs.Lists.{In, Each, Rising, numbered}
 use Rattle.law_sig.specs.Lists.In.{here, there}
+use Rattle.law_laws.proofs.BodyFacts.{some_is, none_is}
 
 -- what holds of all that stand in a list holds of each item, and the other way round
 pub each_of : {A : Type 0} (P : A → Type 0) (xs : List A) → ((x : A) → In x xs → P x) → Each P xs
@@ -55,3 +56,49 @@ in_none at = elim at [ ]
 pub in_rest : {A : Type 0} {a c : A} {cs : List A} → In a (c ∷ cs) → (a ≡ c) ⊎ In a cs
 in_rest here = inl refl
 in_rest (there at) = inr at
+
+-- Joined lists
+
+pub each_left : {A : Type 0} (P : A → Type 0) (xs ys : List A) → Each P (xs ++ ys) → Each P xs
+each_left P [] ys h = tt
+each_left P (x ∷ xs) ys h = (h.0, each_left P xs ys h.1)
+
+pub each_right : {A : Type 0} (P : A → Type 0) (xs ys : List A) → Each P (xs ++ ys) → Each P ys
+each_right P [] ys h = h
+each_right P (x ∷ xs) ys h = each_right P xs ys h.1
+
+pub each_both : {A : Type 0} (P : A → Type 0) (xs ys : List A) → Each P xs → Each P ys → Each P (xs ++ ys)
+each_both P [] ys h k = k
+each_both P (x ∷ xs) ys h k = (h.0, each_both P xs ys h.1 k)
+
+pub rising_right : {A : Type 0} (R : A → A → Type 0) (xs ys : List A) → Rising R (xs ++ ys) → Rising R ys
+rising_right R [] ys h = h
+rising_right R (x ∷ xs) ys h = rising_right R xs ys h.1
+
+-- one rising list after another, where each of the first stands in the relation to each of the second
+pub rising_both : {A : Type 0} (R : A → A → Type 0) (xs ys : List A) → Rising R xs → Rising R ys → Each (λ x. Each (R x) ys) xs → Rising R (xs ++ ys)
+rising_both R [] ys h k across = k
+rising_both R (x ∷ xs) ys h k across = (each_both (R x) xs ys h.0 across.0, rising_both R xs ys h.1 k across.1)
+
+-- what stands before an item stands in the relation to it
+pub rising_at : {A : Type 0} (R : A → A → Type 0) (xs : List A) (y : A) (ys : List A) → Rising R (xs ++ y ∷ ys) → {x : A} → In x xs → R x y
+rising_at R [] y ys h at = in_none at
+rising_at R (x ∷ xs) y ys h here = (each_right (R x) xs (y ∷ ys) h.0).0
+rising_at R (x ∷ xs) y ys h (there at) = rising_at R xs y ys h.1 at
+
+-- Items by number
+
+-- what has a number stands in the list, and what stands there has one
+pub numbered_in : {A : Type 0} (xs : List A) (n : ℕ) (x : A) → numbered xs n ≡ Some x → In x xs
+numbered_in xs zero x h = none_is x h
+numbered_in [] (suc n) x h = none_is x h
+numbered_in (y ∷ xs) (suc zero) x h = subst (λ z. In z (y ∷ xs)) (some_is y x h) here
+numbered_in (y ∷ xs) (suc (suc n)) x h = there (numbered_in xs (suc n) x h)
+
+one_further : {A : Type 0} (x y : A) (xs : List A) → (n : ℕ) × (numbered xs n ≡ Some x) → (n : ℕ) × (numbered (y ∷ xs) n ≡ Some x)
+one_further x y xs (zero, h) = none_is x h
+one_further x y xs (suc n, h) = (suc (suc n), h)
+
+pub in_numbered : {A : Type 0} {x : A} {xs : List A} → In x xs → (n : ℕ) × (numbered xs n ≡ Some x)
+in_numbered here = (1, refl)
+in_numbered (there {x = x} {y = y} {xs = xs} at) = one_further x y xs (in_numbered at)

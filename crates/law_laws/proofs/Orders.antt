@@ -268,3 +268,21 @@ from_here parts f done (s ∷ ss) (t ∷ ts) h =
 -- all arguments replaced by earlier ones, or kept
 pub all_upto : (parts : SigParts) (f : SymId) (ss ts : List Tree) → AreUpto parts ss ts → IsUpto parts (App f ss) (App f ts)
 all_upto parts f ss ts h = from_here parts f [] ss ts h
+
+-- A schema is its own schema, and what has an earlier schema stands before
+
+pub schema_twice : (t : Tree) → schema_of (schema_of t) ≡ schema_of t
+schema_twice = tree_induct (λ t. schema_of (schema_of t) ≡ schema_of t)
+    (λ s i. ap schema_of (schema-Var s i) ∙ schema-Var s 0 ∙ sym (schema-Var s i))
+    (λ f args have. ap schema_of (schema-App f args) ∙ schema-App f (map schema_of args) ∙ ap (App f) (all args have) ∙ sym (schema-App f args))
+  where
+    all : (ts : List Tree) → Each (λ t. schema_of (schema_of t) ≡ schema_of t) ts → map schema_of (map schema_of ts) ≡ map schema_of ts
+    all [] have = refl
+    all (t ∷ ts) have = cc (have.0, all ts have.1)
+
+pub schema_before : (parts : SigParts) (s t : Tree) → IsBefore parts (schema_of s) (schema_of t) → IsBefore parts s t
+schema_before parts s t h = below_less (explore_rank parts s) (explore_rank parts t) (inl (by (less_below (explore_rank parts (schema_of s)) (explore_rank parts (schema_of t)) h)))
+  where
+    by : Below (explore_rank parts (schema_of s)) (explore_rank parts (schema_of t)) → Below (rank parts (schema_of s)) (rank parts (schema_of t))
+    by (inl k) = subst₂ (λ x y. Below (rank parts x) (rank parts y)) (schema_twice s) (schema_twice t) k
+    by (inr k) = k.1

@@ -16,12 +16,12 @@ ListCovers = (parts : SigParts) (pools : Pools) (laws : List Equation)
     → ((sort : SortId) (t : Tree) → InU parts sort t → (u : Tree) × IsLeast parts pools sort t u)
     → IsCovered parts pools laws
 
--- in a well-formed signature, where nothing is over budget, every term of the universe has a least term that agrees with it
+-- in a well-formed signature every term of the universe has a least, whatever is over budget
 abbrev pub LeastExists : Type 0
-LeastExists = (parts : SigParts) (pools : Pools) → IsWellFormed parts → IsInBudget parts pools
+LeastExists = (parts : SigParts) (pools : Pools) → IsWellFormed parts
     → (sort : SortId) (t : Tree) → InU parts sort t → (u : Tree) × IsLeast parts pools sort t u
 
--- so there the law list covers
+-- so where nothing is over budget the law list covers
 abbrev pub ListInBudgetCovers : Type 0
 ListInBudgetCovers = (parts : SigParts) (pools : Pools) (laws : List Equation) → IsWellFormed parts → IsInBudget parts pools
     → IsLawList parts pools laws → IsCovered parts pools laws

@@ -1,9 +1,11 @@
--- Laws of derivation.
+-- Laws of derivation, and of chains of steps.
 use Rattle.std.specs.Prelude.{◌≡◌, List, Some}
 use Rattle.law_sig.specs.Lists.{In, Each}
 use Rattle.law_sig.specs.Trees.{Subst, substituted}
 use Rattle.law_sig.specs.Signature.{sort_of}
 use Rattle.law_sig.specs.Derive.{KeepsSorts, Derivable}
+use Rattle.law_sig.specs.Chains.{Replays}
+use Rattle.law_sig.specs.declared.chain.Step.{Step}
 use Rattle.law_sig.specs.declared.tree.SortId.{SortId}
 use Rattle.law_sig.specs.declared.tree.Tree.{Tree}
 use Rattle.law_sig.specs.declared.parts.Equation.{Equation}
@@ -30,3 +32,8 @@ abbrev pub DerivableEquationsAddNothing : Type 0
 DerivableEquationsAddNothing = (parts : SigParts) (base equations : List Equation)
     → ((e : Equation) → In e equations → Derivable parts base e.left e.right)
     → (s t : Tree) → Derivable parts equations s t → Derivable parts base s t
+
+-- a chain that replays is a derivation from its equations
+abbrev pub ChainsDerive : Type 0
+ChainsDerive = (parts : SigParts) (equations : List Equation) (steps : List Step) (s t : Tree)
+    → Replays parts equations steps s t → Derivable parts equations s t

@@ -6,7 +6,7 @@ mod counting;
 ghost use Rattle.law_laws.specs.Agreement.{AgreementIsPartialEquivalence, LeastTellsValues, OneLawList};
 ghost use Rattle.law_laws.specs.Application.{ComputedIsGiven, GivenIsComputed, OneValue, DepthChangesNothing, BudgetBoundsCost};
 ghost use Rattle.law_laws.specs.Coverage.{ListCovers, LeastExists, ListInBudgetCovers};
-ghost use Rattle.law_laws.specs.Derivation.{DerivationKeepsSorts, InstancesAreDerivable, DerivableEquationsAddNothing};
+ghost use Rattle.law_laws.specs.Derivation.{DerivationKeepsSorts, InstancesAreDerivable, DerivableEquationsAddNothing, ChainsDerive};
 ghost use Rattle.law_laws.specs.Filling.{NumberedTermsFill};
 ghost use Rattle.law_laws.specs.Orders.{OrdersAreSpelled, ExploringFollowsWeight, OrdersAreTotal, EqualIsSame, FallsWithArgument, DescentsEnd};
 ghost use Rattle.law_laws.specs.Renaming.{TestsAreRenamed, FlatTestsSeeSchemas};
@@ -14,7 +14,7 @@ ghost use Rattle.law_laws.specs.Renaming.{TestsAreRenamed, FlatTestsSeeSchemas};
 pub use counting::counting_laws;
 
 /// The law list covers, where every term of the universe has a value at every test and a least one; and each has a least
-/// one where nothing is over budget.
+/// one, whatever is over budget.
 pub fn coverage_laws()
     ensures covers { ListCovers }
     ensures least { LeastExists }
@@ -41,11 +41,13 @@ pub fn application_laws()
     ensures budget { BudgetBoundsCost }
 {}
 
-/// Derivation keeps sorts, is closed under substitutions that keep sorts, and gains nothing from derivable equations.
+/// Derivation keeps sorts, is closed under substitutions that keep sorts, and gains nothing from derivable equations. A chain
+/// that replays is a derivation.
 pub fn derivation_laws()
     ensures sorts { DerivationKeepsSorts }
     ensures instances { InstancesAreDerivable }
     ensures derived { DerivableEquationsAddNothing }
+    ensures chains { ChainsDerive }
 {}
 
 /// Agreement is symmetric and transitive, terms of one sort with the same values have the same least term, and there is

@@ -2,8 +2,10 @@
 #![tactic(auto)]
 
 mod given;
+mod own;
 mod pools;
 mod written;
 
 pub use given::given_pools;
+pub use own::OwnTests;
 pub use pools::Pools;

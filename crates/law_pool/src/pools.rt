@@ -73,9 +73,11 @@ impl Pools {
         })
     }
 
-    /// How many tests there are: every way to give the variables places, for each pool.
+    /// How many tests there are: every way to give the variables places, of which there are at most 4,096, for each pool.
     pub fn tests(&self) -> u64
-        ensures { (parts : SigParts) (bank : List Tree) → IsFor parts self.now → result ≡ test_count parts (pools_of bank self.now.ids) }
+        ensures tests { (parts : SigParts) (bank : List Tree) → IsFor parts self.now → result ≡ test_count parts (pools_of bank self.now.ids) }
+        ensures assignments { (parts : SigParts) → IsFor parts self.now → assignments parts ≤ 4096 }
+        ensures few { result < 2 ^ 63 }
     {
         self.values.len() as u64 * self.assignments
     }

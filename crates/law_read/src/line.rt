@@ -1,26 +1,23 @@
 ghost use Rattle.std.specs.Prelude.{◌≡◌, ◌<◌, ◌^◌, [], ◌∷◌, IsTrue, MatchResult};
-ghost use Rattle.law_text.specs.Pieces.{pieces};
-ghost use Rattle.law_read.specs.declared.want.Want.TheVariants as w;
-ghost use Rattle.law_read.specs.declared.want.Row.TheVariants as r;
-ghost use Rattle.law_read.specs.declared.want.Ending.TheVariants as e;
-ghost use Rattle.law_read.specs.declared.stage.Key.TheVariants as key;
-ghost use Rattle.law_read.specs.declared.stage.Version.TheVariants.{First, Second, Third};
-ghost use Rattle.law_read.specs.Walk.{is_version, line_wants, seed_wants, setting, walk};
-ghost use Rattle.law_read.specs.Reads.{Reads, Stops, StopsAt};
-ghost use Rattle.law_read.specs.LineReads.{HeadRead, LineRead, RestRead, RuleRead, SeedRead, SettingRead, ValuesRead};
+ghost use Rattle.law_lines.specs.Pieces.{pieces};
+ghost use Rattle.law_lines.specs.declared.want.Want.TheVariants as w;
+ghost use Rattle.law_lines.specs.declared.want.Row.TheVariants as r;
+ghost use Rattle.law_lines.specs.declared.want.Ending.TheVariants as e;
+ghost use Rattle.law_lines.specs.declared.stage.Key.TheVariants as key;
+ghost use Rattle.law_lines.specs.declared.stage.Version.TheVariants.{First, Second, Third};
+ghost use Rattle.law_lines.specs.Walk.{is_version, line_wants, seed_wants, setting, walk};
+ghost use Rattle.law_lines.specs.Reads.{Reads, Stops, StopsAt};
+ghost use Rattle.law_places.specs.LineReads.{HeadRead, LineRead, RestRead, RuleRead, SeedRead, SettingRead, ValuesRead};
 
-use crate::error::Stop;
 use crate::part::{end, fixed, gap, name, numeral, word};
-use crate::raw::{RawLine, RawTerm};
-use crate::stage::{Key, Stage, Version};
 use crate::take::{key_of, same};
 use crate::term::{args, names, term};
-use crate::want::{Ending, Mark, Place, Row, Want};
+use law_lines::{Ending, Key, Mark, Place, RawLine, RawTerm, Row, Stage, Stop, Version, Want};
 use law_sig::Seq;
 use law_text::Line;
 use std::alloc::Global;
 
-#[tactic(auto, using(crate::proofs::LineSteps::line_steps))]
+#[tactic(auto, using(law_places::proofs::LineSteps::line_steps))]
 fn setting(line: &mut Line<'_>) -> Result<u64, Stop>
     ensures { MatchResult result (SettingRead line.old.left) (λ stop. Stops stop (walk 0 setting (pieces line.old.left))) }
 {
@@ -30,7 +27,7 @@ fn setting(line: &mut Line<'_>) -> Result<u64, Stop>
     Ok(number)
 }
 
-#[tactic(auto, using(crate::proofs::LineSteps::line_steps))]
+#[tactic(auto, using(law_places::proofs::LineSteps::line_steps))]
 fn sort_plain(alloc: Global, line: &mut Line<'_>) -> Result<RawLine, Stop>
     ensures { MatchResult result (RestRead First key.Sort line.old.left) (λ stop. Stops stop (walk 0 (line_wants First key.Sort) (pieces line.old.left))) }
 {
@@ -40,7 +37,7 @@ fn sort_plain(alloc: Global, line: &mut Line<'_>) -> Result<RawLine, Stop>
     Ok(RawLine::SortLine(name))
 }
 
-#[tactic(auto, using(crate::proofs::LineSteps::line_steps))]
+#[tactic(auto, using(law_places::proofs::LineSteps::line_steps))]
 fn sort_sized(alloc: Global, line: &mut Line<'_>) -> Result<RawLine, Stop>
     ensures { MatchResult result (λ raw. RestRead Second key.Sort line.old.left raw × RestRead Third key.Sort line.old.left raw) (λ stop. Stops stop (walk 0 (line_wants Second key.Sort) (pieces line.old.left))) }
 {
@@ -54,7 +51,7 @@ fn sort_sized(alloc: Global, line: &mut Line<'_>) -> Result<RawLine, Stop>
     Ok(RawLine::SortLine2 { name, vars, width })
 }
 
-#[tactic(auto, using(crate::proofs::LineSteps::line_steps))]
+#[tactic(auto, using(law_places::proofs::LineSteps::line_steps))]
 fn con_plain(alloc: Global, line: &mut Line<'_>) -> Result<RawLine, Stop>
     ensures { MatchResult result (λ raw. RestRead First key.Con line.old.left raw × RestRead Second key.Con line.old.left raw) (λ stop. Stops stop (walk 0 (line_wants First key.Con) (pieces line.old.left))) }
 {
@@ -65,7 +62,7 @@ fn con_plain(alloc: Global, line: &mut Line<'_>) -> Result<RawLine, Stop>
     Ok(RawLine::ConLine { name, args })
 }
 
-#[tactic(auto, using(crate::proofs::LineSteps::line_steps))]
+#[tactic(auto, using(law_places::proofs::LineSteps::line_steps))]
 fn fun_plain(alloc: Global, line: &mut Line<'_>) -> Result<RawLine, Stop>
     ensures { MatchResult result (λ raw. RestRead First key.Fun line.old.left raw × RestRead Second key.Fun line.old.left raw) (λ stop. Stops stop (walk 0 (line_wants First key.Fun) (pieces line.old.left))) }
 {
@@ -78,7 +75,7 @@ fn fun_plain(alloc: Global, line: &mut Line<'_>) -> Result<RawLine, Stop>
     Ok(RawLine::FunLine { name, args, result })
 }
 
-#[tactic(auto, using(crate::proofs::LineSteps::line_steps))]
+#[tactic(auto, using(law_places::proofs::LineSteps::line_steps))]
 fn con_weighted(alloc: Global, line: &mut Line<'_>) -> Result<RawLine, Stop>
     ensures { MatchResult result (RestRead Third key.Con line.old.left) (λ stop. Stops stop (walk 0 (line_wants Third key.Con) (pieces line.old.left))) }
 {
@@ -91,7 +88,7 @@ fn con_weighted(alloc: Global, line: &mut Line<'_>) -> Result<RawLine, Stop>
     Ok(RawLine::ConLine3 { weight, name, args })
 }
 
-#[tactic(auto, using(crate::proofs::LineSteps::line_steps))]
+#[tactic(auto, using(law_places::proofs::LineSteps::line_steps))]
 fn fun_weighted(alloc: Global, line: &mut Line<'_>) -> Result<RawLine, Stop>
     ensures { MatchResult result (RestRead Third key.Fun line.old.left) (λ stop. Stops stop (walk 0 (line_wants Third key.Fun) (pieces line.old.left))) }
 {
@@ -111,7 +108,7 @@ fn fun_weighted(alloc: Global, line: &mut Line<'_>) -> Result<RawLine, Stop>
     })
 }
 
-#[tactic(auto, using(crate::proofs::LineSteps::line_steps))]
+#[tactic(auto, using(law_places::proofs::LineSteps::line_steps))]
 fn sort(alloc: Global, version: Version, line: &mut Line<'_>) -> Result<RawLine, Stop>
     ensures { MatchResult result (RestRead version key.Sort line.old.left) (λ stop. Stops stop (walk 0 (line_wants version key.Sort) (pieces line.old.left))) }
 {
@@ -122,7 +119,7 @@ fn sort(alloc: Global, version: Version, line: &mut Line<'_>) -> Result<RawLine,
     }
 }
 
-#[tactic(auto, using(crate::proofs::LineSteps::line_steps))]
+#[tactic(auto, using(law_places::proofs::LineSteps::line_steps))]
 fn con(alloc: Global, version: Version, line: &mut Line<'_>) -> Result<RawLine, Stop>
     ensures { MatchResult result (RestRead version key.Con line.old.left) (λ stop. Stops stop (walk 0 (line_wants version key.Con) (pieces line.old.left))) }
 {
@@ -133,7 +130,7 @@ fn con(alloc: Global, version: Version, line: &mut Line<'_>) -> Result<RawLine, 
     }
 }
 
-#[tactic(auto, using(crate::proofs::LineSteps::line_steps))]
+#[tactic(auto, using(law_places::proofs::LineSteps::line_steps))]
 fn fun(alloc: Global, version: Version, line: &mut Line<'_>) -> Result<RawLine, Stop>
     ensures { MatchResult result (RestRead version key.Fun line.old.left) (λ stop. Stops stop (walk 0 (line_wants version key.Fun) (pieces line.old.left))) }
 {
@@ -144,7 +141,7 @@ fn fun(alloc: Global, version: Version, line: &mut Line<'_>) -> Result<RawLine, 
     }
 }
 
-#[tactic(auto, using(crate::proofs::LineSteps::line_steps))]
+#[tactic(auto, using(law_places::proofs::LineSteps::line_steps))]
 fn body(alloc: Global, version: Version, line: &mut Line<'_>) -> Result<RawLine, Stop>
     ensures { MatchResult result (RestRead version key.Body line.old.left) (λ stop. Stops stop (walk 0 (line_wants version key.Body) (pieces line.old.left))) }
 {
@@ -156,7 +153,7 @@ fn body(alloc: Global, version: Version, line: &mut Line<'_>) -> Result<RawLine,
     Ok(RawLine::BodyLine(body))
 }
 
-#[tactic(auto, using(crate::proofs::LineSteps::line_steps))]
+#[tactic(auto, using(law_places::proofs::LineSteps::line_steps))]
 fn case(alloc: Global, version: Version, line: &mut Line<'_>) -> Result<RawLine, Stop>
     ensures { MatchResult result (RestRead version key.Case line.old.left) (λ stop. Stops stop (walk 0 (line_wants version key.Case) (pieces line.old.left))) }
 {
@@ -170,7 +167,7 @@ fn case(alloc: Global, version: Version, line: &mut Line<'_>) -> Result<RawLine,
     Ok(RawLine::CaseLine { con, body })
 }
 
-#[tactic(auto, using(crate::proofs::LineSteps::line_steps))]
+#[tactic(auto, using(law_places::proofs::LineSteps::line_steps))]
 fn explore(alloc: Global, version: Version, line: &mut Line<'_>) -> Result<RawLine, Stop>
     ensures { MatchResult result (RestRead version key.Explore line.old.left) (λ stop. Stops stop (walk 0 (line_wants version key.Explore) (pieces line.old.left))) }
 {
@@ -179,7 +176,7 @@ fn explore(alloc: Global, version: Version, line: &mut Line<'_>) -> Result<RawLi
     Ok(RawLine::Explore(found))
 }
 
-#[tactic(auto, using(crate::proofs::LineSteps::line_steps))]
+#[tactic(auto, using(law_places::proofs::LineSteps::line_steps))]
 fn background(alloc: Global, version: Version, line: &mut Line<'_>) -> Result<RawLine, Stop>
     ensures { MatchResult result (RestRead version key.Background line.old.left) (λ stop. Stops stop (walk 0 (line_wants version key.Background) (pieces line.old.left))) }
 {
@@ -191,7 +188,7 @@ fn background(alloc: Global, version: Version, line: &mut Line<'_>) -> Result<Ra
     Ok(RawLine::Background { left, right })
 }
 
-#[tactic(auto, using(crate::proofs::LineSteps::line_steps))]
+#[tactic(auto, using(law_places::proofs::LineSteps::line_steps))]
 fn values(alloc: Global, version: Version, line: &mut Line<'_>) -> Result<RawLine, Stop>
     ensures { MatchResult result (RestRead version key.Values line.old.left) (λ stop. Stops stop (walk 0 (line_wants version key.Values) (pieces line.old.left))) }
 {
@@ -202,7 +199,7 @@ fn values(alloc: Global, version: Version, line: &mut Line<'_>) -> Result<RawLin
     Ok(RawLine::Values { sort, values })
 }
 
-#[tactic(auto, using(crate::proofs::LineSteps::line_steps))]
+#[tactic(auto, using(law_places::proofs::LineSteps::line_steps))]
 fn signature(version: Version, line: &mut Line<'_>) -> Result<RawLine, Stop>
     ensures { MatchResult result (RestRead version key.Signature line.old.left) (λ stop. Stops stop (walk 0 (line_wants version key.Signature) (pieces line.old.left))) }
 {
@@ -212,7 +209,7 @@ fn signature(version: Version, line: &mut Line<'_>) -> Result<RawLine, Stop>
     Ok(head(number))
 }
 
-#[tactic(auto, using(crate::proofs::LineSteps::line_steps))]
+#[tactic(auto, using(law_places::proofs::LineSteps::line_steps))]
 fn pools(version: Version, line: &mut Line<'_>) -> Result<RawLine, Stop>
     ensures { MatchResult result (RestRead version key.Pools line.old.left) (λ stop. Stops stop (walk 0 (line_wants version key.Pools) (pieces line.old.left))) }
 {
@@ -234,7 +231,7 @@ fn value_row(alloc: Global, line: &mut Line<'_>) -> Result<Seq<RawTerm>, Stop>
     }
 }
 
-#[tactic(auto, using(crate::proofs::LineSteps::version_read))]
+#[tactic(auto, using(law_places::proofs::LineSteps::version_read))]
 fn version_word<'t>(line: &mut Line<'t>) -> Result<&'t [u8], Stop>
     ensures { MatchResult result
         (λ number. IsTrue (is_version number.now) × Reads w.Version line.old.left line.new.left number.now)
@@ -264,7 +261,7 @@ fn head(number: &[u8]) -> RawLine
     RawLine::Head3
 }
 
-#[tactic(auto, using(crate::proofs::LineSteps::line_steps))]
+#[tactic(auto, using(law_places::proofs::LineSteps::line_steps))]
 fn seed(line: &mut Line<'_>) -> Result<RawLine, Stop>
     ensures { MatchResult result (SeedRead line.old.left) (λ stop. Stops stop (walk 0 seed_wants (pieces line.old.left))) }
 {
@@ -287,7 +284,7 @@ fn seed(line: &mut Line<'_>) -> Result<RawLine, Stop>
 }
 
 /// A line from behind its key on.
-#[tactic(auto, using(crate::proofs::LineSteps::line_steps))]
+#[tactic(auto, using(law_places::proofs::LineSteps::line_steps))]
 fn rest(alloc: Global, version: Version, key: Key, line: &mut Line<'_>) -> Result<RawLine, Stop>
     ensures { MatchResult result (RestRead version key line.old.left) (λ stop. Stops stop (walk 0 (line_wants version key) (pieces line.old.left))) }
 {
@@ -320,7 +317,7 @@ fn rest(alloc: Global, version: Version, key: Key, line: &mut Line<'_>) -> Resul
 }
 
 /// A line that may come at this stage.
-#[tactic(auto, using(crate::proofs::LineSteps::line_steps))]
+#[tactic(auto, using(law_places::proofs::LineSteps::line_steps))]
 pub fn read_line(alloc: Global, stage: Stage, bytes: &[u8]) -> Result<RawLine, Stop>
     ensures { MatchResult result (LineRead stage bytes.now) (λ stop. Stops stop (walk 0 (w.Key stage ∷ []) (pieces bytes.now))) }
 {

@@ -1,16 +1,15 @@
 ghost use Rattle.std.specs.Prelude.{◌≡◌, ◌<◌, ◌^◌, Bool, true, List, [], ◌∷◌, decimal, Some, None, IfOk, IsTrue, MatchResult};
-ghost use Rattle.law_text.specs.Pieces.{pieces};
-ghost use Rattle.law_read.specs.declared.want.Want.TheVariants as w;
-ghost use Rattle.law_read.specs.declared.want.Bounds.TheVariants.{Kept};
-ghost use Rattle.law_read.specs.Terms.{is_name_in};
-ghost use Rattle.law_read.specs.Walk.{enough, is_word_want, mark_text, may_end, walk};
-ghost use Rattle.law_read.specs.Reads.{Ended, Reads, Stops, StopsAt, Took, TookWord, Wanted};
+ghost use Rattle.law_lines.specs.Pieces.{pieces};
+ghost use Rattle.law_lines.specs.declared.want.Want.TheVariants as w;
+ghost use Rattle.law_lines.specs.declared.want.Bounds.TheVariants.{Kept};
+ghost use Rattle.law_lines.specs.Terms.{is_name_in};
+ghost use Rattle.law_lines.specs.Walk.{enough, is_word_want, mark_text, may_end, walk};
+ghost use Rattle.law_lines.specs.Reads.{Ended, Reads, Stops, StopsAt, Took, TookWord, Wanted};
 
-use crate::error::{ReadKind, Stop};
 use crate::take::{kind_at, takes};
-use crate::want::{Bounds, Ending, Mark, Row, Want};
+use law_lines::{Bounds, Ending, Mark, ReadKind, Row, Stop, Token, Want};
 use law_sig::{NoMemory, Text};
-use law_text::{Line, Token, number};
+use law_text::{Line, number};
 use std::alloc::Global;
 
 fn may_end(want: Want) -> bool
@@ -37,7 +36,7 @@ fn enough(row: Row, count: usize) -> bool
 }
 
 /// The next piece, which is one that is wanted; `None` at the end, where the line may end.
-#[tactic(auto, using(crate::proofs::Walks::steps))]
+#[tactic(auto, using(law_lines::proofs::Walks::steps))]
 pub fn want<'t>(line: &mut Line<'t>, want: Want, nodes: u32) -> Result<Option<Token<'t>>, Stop>
     ensures { MatchResult result (Wanted nodes want line.old.left line.new.left) (StopsAt nodes want line.old.left) }
 {
@@ -60,7 +59,7 @@ pub fn want<'t>(line: &mut Line<'t>, want: Want, nodes: u32) -> Result<Option<To
 }
 
 /// The end of the line, where nothing more is wanted.
-#[tactic(auto, using(crate::proofs::Walks::steps))]
+#[tactic(auto, using(law_lines::proofs::Walks::steps))]
 pub fn end(line: &mut Line<'_>) -> Result<(), Stop>
     ensures { MatchResult result (λ _. (line.old.left ≡ []) × (walk 0 [] (pieces line.old.left) ≡ None)) (λ stop. Stops stop (walk 0 [] (pieces line.old.left))) }
 {
@@ -71,7 +70,7 @@ pub fn end(line: &mut Line<'_>) -> Result<(), Stop>
 }
 
 /// The next word, where nothing but a word may come.
-#[tactic(auto, using(crate::proofs::Walks::words))]
+#[tactic(auto, using(law_lines::proofs::Walks::words))]
 pub fn word<'t>(line: &mut Line<'t>, wanted: Want, nodes: u32) -> Result<&'t [u8], Stop>
     requires { IsTrue (is_word_want wanted) }
     ensures { MatchResult result (λ bytes. TookWord nodes wanted line.old.left line.new.left bytes.now) (StopsAt nodes wanted line.old.left) }
@@ -82,7 +81,7 @@ pub fn word<'t>(line: &mut Line<'t>, wanted: Want, nodes: u32) -> Result<&'t [u8
     }
 }
 
-#[tactic(auto, using(crate::proofs::Walks::words, crate::proofs::Parts::parts))]
+#[tactic(auto, using(law_lines::proofs::Walks::words, law_lines::proofs::Parts::parts))]
 pub fn gap(line: &mut Line<'_>) -> Result<(), Stop>
     ensures { MatchResult result (λ _. Reads w.Gap line.old.left line.new.left (32 ∷ [])) (StopsAt 0 w.Gap line.old.left) }
 {
@@ -92,7 +91,7 @@ pub fn gap(line: &mut Line<'_>) -> Result<(), Stop>
     }
 }
 
-#[tactic(auto, using(crate::proofs::Parts::parts))]
+#[tactic(auto, using(law_lines::proofs::Parts::parts))]
 pub fn fixed(line: &mut Line<'_>, mark: Mark) -> Result<(), Stop>
     ensures { MatchResult result (λ _. Reads (w.Fixed mark) line.old.left line.new.left (mark_text mark)) (StopsAt 0 (w.Fixed mark) line.old.left) }
 {
@@ -100,7 +99,7 @@ pub fn fixed(line: &mut Line<'_>, mark: Mark) -> Result<(), Stop>
     Ok(())
 }
 
-#[tactic(auto, using(crate::proofs::Parts::parts))]
+#[tactic(auto, using(law_lines::proofs::Parts::parts))]
 pub fn numeral(line: &mut Line<'_>) -> Result<u64, Stop>
     ensures { MatchResult result (λ n. (n < 2 ^ 63) × Reads w.Number line.old.left line.new.left (decimal n)) (StopsAt 0 w.Number line.old.left) }
 {
@@ -111,7 +110,7 @@ pub fn numeral(line: &mut Line<'_>) -> Result<u64, Stop>
     }
 }
 
-#[tactic(auto, using(crate::proofs::Parts::parts))]
+#[tactic(auto, using(law_lines::proofs::Parts::parts))]
 pub fn name(alloc: Global, line: &mut Line<'_>) -> Result<Text, Stop>
     ensures { MatchResult result (λ text. IsTrue (is_name_in Kept text) × Reads w.Name line.old.left line.new.left text) (StopsAt 0 w.Name line.old.left) }
 {

@@ -1,29 +1,26 @@
 ghost use Rattle.std.specs.Prelude.{◌≡◌, false, Some, None, List, [], ◌∷◌, ◌++◌, IfOk, IfErr, MatchOption, MatchResult};
-ghost use Rattle.law_text.specs.Pieces.{pieces};
-ghost use Rattle.law_read.specs.declared.want.Bounds.TheVariants.{Kept};
-ghost use Rattle.law_read.specs.declared.want.Place.TheVariants as p;
-ghost use Rattle.law_read.specs.declared.want.Want.TheVariants as w;
-ghost use Rattle.law_read.specs.declared.want.Ending.TheVariants as e;
-ghost use Rattle.law_read.specs.Walk.{walk, term_fault};
-ghost use Rattle.law_read.specs.Spelling.{sig_spelling, term_spelling};
-ghost use Rattle.law_read.specs.Terms.{IsTerm};
-ghost use Rattle.law_read.specs.Reads.{Stops};
-ghost use Rattle.law_read.specs.Signature.{IsRawSig};
-ghost use Rattle.law_read.specs.Progress.{StoppedBy, TermFound};
-ghost use Rattle.law_read.specs.Texts.{FirstLine, IsReadAs, RefusedBy, TermFault, TermTaken, has_feed};
+ghost use Rattle.law_lines.specs.Pieces.{pieces};
+ghost use Rattle.law_lines.specs.declared.want.Bounds.TheVariants.{Kept};
+ghost use Rattle.law_lines.specs.declared.want.Place.TheVariants as p;
+ghost use Rattle.law_lines.specs.declared.want.Want.TheVariants as w;
+ghost use Rattle.law_lines.specs.declared.want.Ending.TheVariants as e;
+ghost use Rattle.law_lines.specs.Walk.{walk, term_fault};
+ghost use Rattle.law_lines.specs.Spelling.{sig_spelling, term_spelling};
+ghost use Rattle.law_lines.specs.Terms.{IsTerm};
+ghost use Rattle.law_lines.specs.Reads.{Stops};
+ghost use Rattle.law_lines.specs.Signature.{IsRawSig};
+ghost use Rattle.law_places.specs.Progress.{StoppedBy, TermFound};
+ghost use Rattle.law_lines.specs.Texts.{FirstLine, IsReadAs, RefusedBy, TermFault, TermTaken, has_feed};
 
-use crate::error::{ReadErr, ReadKind, Stop};
 use crate::part::end;
-use crate::raw::RawTerm;
-use crate::sig::RawSig;
 use crate::sig_lines::{SigLines, all_printed, is_spaced};
 use crate::term::term;
-use crate::want::{Ending, Place};
+use law_lines::{Ending, Place, RawSig, RawTerm, ReadErr, ReadKind, Stop};
 use law_text::Line;
 use std::alloc::Global;
 
 /// The signature that a text spells, which is the only one. A refusal names the first line that has no reading, and why.
-#[tactic(auto, using(crate::proofs::TextReads::text_steps))]
+#[tactic(auto, using(law_places::proofs::TextReads::text_steps))]
 pub fn read_sig(alloc: Global, text: &[u8]) -> Result<RawSig, ReadErr>
     ensures ok { IfOk result (IsReadAs text.now) }
     ensures form { IfErr result (RefusedBy text.now) }
@@ -69,7 +66,7 @@ fn first_line(text: &[u8]) -> Option<(&[u8], &[u8])>
 }
 
 /// The term that some bytes spell, with the atoms of equations; a refusal counts them as line 1.
-#[tactic(auto, using(crate::proofs::TextReads::term_steps))]
+#[tactic(auto, using(law_places::proofs::TextReads::term_steps))]
 pub fn read_term(alloc: Global, bytes: &[u8]) -> Result<RawTerm, ReadErr>
     ensures ok { IfOk result (TermTaken bytes.now) }
     ensures form { IfErr result (TermFault bytes.now) }
@@ -93,7 +90,7 @@ fn take_term(alloc: Global, bytes: &[u8]) -> Result<RawTerm, Stop>
     whole_term(alloc, bytes)
 }
 
-#[tactic(auto, using(crate::proofs::LineSteps::line_steps))]
+#[tactic(auto, using(law_places::proofs::LineSteps::line_steps))]
 fn whole_term(alloc: Global, bytes: &[u8]) -> Result<RawTerm, Stop>
     ensures { MatchResult result
         (λ term. IsTerm Kept p.Equation term × (term_spelling term ≡ bytes.now) × (walk 0 (w.Root p.Equation e.Line ∷ []) (pieces bytes.now) ≡ None))

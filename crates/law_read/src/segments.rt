@@ -1,20 +1,17 @@
 ghost use Rattle.std.specs.Prelude.{◌≡◌, List, [], ◌∷◌, ◌++◌, IfOk, MatchResult};
-ghost use Rattle.law_text.specs.Pieces.{pieces};
-ghost use Rattle.law_read.specs.declared.want.Want.TheVariants as w;
-ghost use Rattle.law_read.specs.declared.want.Ending.TheVariants as e;
-ghost use Rattle.law_read.specs.declared.want.Mark.TheVariants.{Equals};
-ghost use Rattle.law_read.specs.declared.want.Place.TheVariants as p;
-ghost use Rattle.law_read.specs.Segments.{EquationRead, IsEquation, ValuesLineRead};
-ghost use Rattle.law_read.specs.Reads.{Stops};
-ghost use Rattle.law_read.specs.Walk.{walk};
+ghost use Rattle.law_lines.specs.Pieces.{pieces};
+ghost use Rattle.law_lines.specs.declared.want.Want.TheVariants as w;
+ghost use Rattle.law_lines.specs.declared.want.Ending.TheVariants as e;
+ghost use Rattle.law_lines.specs.declared.want.Mark.TheVariants.{Equals};
+ghost use Rattle.law_lines.specs.declared.want.Place.TheVariants as p;
+ghost use Rattle.law_lines.specs.Segments.{EquationRead, IsEquation, ValuesLineRead};
+ghost use Rattle.law_lines.specs.Reads.{Stops};
+ghost use Rattle.law_lines.specs.Walk.{walk};
 
-use crate::error::Stop;
 use crate::line::read_line;
 use crate::part::{end, gap};
-use crate::raw::{RawLine, RawTerm};
-use crate::stage::{Key, Stage, Version};
 use crate::term::term;
-use crate::want::{Ending, Mark, Place};
+use law_lines::{Ending, Key, Mark, Place, RawLine, RawTerm, Stage, Stop, Version};
 use law_sig::{NoMemory, Seq, Text};
 use law_text::Line;
 use std::alloc::Global;
@@ -30,7 +27,7 @@ pub fn read_equation(alloc: Global, bytes: &[u8]) -> Result<Option<(RawTerm, Raw
     }
 }
 
-#[tactic(auto, using(crate::proofs::LineSteps::line_steps))]
+#[tactic(auto, using(law_places::proofs::LineSteps::line_steps))]
 fn equation(alloc: Global, bytes: &[u8]) -> Result<(RawTerm, RawTerm), Stop>
     ensures { MatchResult result
         (λ sides. IsEquation bytes.now sides.0 sides.1)

@@ -1,16 +1,13 @@
 ghost use Rattle.std.specs.Prelude.{◌≡◌, Bool, true, List, [], ◌∷◌, ◌++◌, length, None, Some, IfOk, OnErr, IfErr, MatchResult, min, ◌+◌, ◌-◌, ◌^◌};
 ghost use Rattle.std.specs.List.{list_all};
-ghost use Rattle.law_read.specs.Faults.{is_closed_by, is_printed, is_spaced, spaces_fit};
-ghost use Rattle.law_read.specs.Walk.{line_fault};
-ghost use Rattle.law_read.specs.Progress.{Added, Finished, LineTaken, NotFinished, Refused};
-ghost use Rattle.law_read.specs.Texts.{next_number};
-ghost use Rattle.law_read.specs.Reads.{Stops};
+ghost use Rattle.law_lines.specs.Faults.{is_closed_by, is_printed, is_spaced, spaces_fit};
+ghost use Rattle.law_lines.specs.Walk.{line_fault};
+ghost use Rattle.law_places.specs.Progress.{Added, Finished, LineTaken, NotFinished, Refused};
+ghost use Rattle.law_lines.specs.Texts.{next_number};
+ghost use Rattle.law_lines.specs.Reads.{Stops};
 
-use crate::error::{ReadErr, ReadKind, Stop};
 use crate::line::read_line;
-use crate::raw::RawLine;
-use crate::sig::RawSig;
-use crate::stage::{Key, Stage, Version};
+use law_lines::{Key, RawLine, RawSig, ReadErr, ReadKind, Stage, Stop, Version};
 use law_sig::Seq;
 use std::alloc::Global;
 use std::marker::Model;
@@ -27,8 +24,8 @@ pub struct SigLines {
 
 impl Model for SigLines {
     ghost use Rattle.std.specs.Coded.{codes, coded_list};
-    ghost use Rattle.law_read.specs.contracts.raw.RawTerm as term;
-    ghost use Rattle.law_read.specs.Progress.{Progress, IsProgress};
+    ghost use Rattle.law_lines.specs.contracts.raw.RawTerm as term;
+    ghost use Rattle.law_places.specs.Progress.{Progress, IsProgress};
 
     ghost Value = { Progress };
 
@@ -105,7 +102,7 @@ impl SigLines {
     }
 
     /// The number of the next line, counted from 1.
-    pub fn next_line(&self) -> u64
+    pub(crate) fn next_line(&self) -> u64
         ensures { result ≡ next_number self.now.lines }
     {
         next_number(self.lines.len())

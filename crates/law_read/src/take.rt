@@ -1,27 +1,12 @@
 ghost use Rattle.std.specs.Prelude.{◌≡◌, IsTrue, length, is_some, option_map};
 ghost use Rattle.std.specs.Str.{bytes_eq};
-ghost use Rattle.law_text.specs.Pieces.{piece_of};
-ghost use Rattle.law_read.specs.Terms.{is_name_in, within};
-ghost use Rattle.law_read.specs.Walk.{below, has_mark, is_atom, is_item, is_mark, is_mended, is_numbered, is_pools, is_special, is_variable, is_version, key_in, key_of, later_keys, allows_found, kind_at, mark_text, may_come, may_open, number_fault, takes, takes_closing, takes_opening, takes_space, takes_word};
-ghost use Rattle.law_read.specs.Numbers.{cut, is_index, is_number, is_bad_index, is_bad_behind};
+ghost use Rattle.law_lines.specs.Pieces.{piece_of};
+ghost use Rattle.law_lines.specs.Terms.{is_name_in, within};
+ghost use Rattle.law_lines.specs.Walk.{below, has_mark, is_atom, is_item, is_mark, is_mended, is_numbered, is_pools, is_special, is_variable, is_version, key_in, key_of, later_keys, allows_found, kind_at, may_come, may_open, number_fault, takes, takes_closing, takes_opening, takes_space, takes_word};
+ghost use Rattle.law_lines.specs.Numbers.{cut, is_index, is_number, is_bad_index, is_bad_behind};
 
-use crate::error::ReadKind;
-use crate::stage::{Key, Stage};
-use crate::want::{Bounds, Ending, Mark, Place, Row, Want};
-use law_text::{Token, index, is_word_of_letters, number};
-
-impl Mark {
-    pub fn text(self) -> &'static [u8]
-        ensures { result.now ≡ mark_text self }
-    {
-        match self {
-            Mark::Equals => b"=",
-            Mark::Arrow => b"->",
-            Mark::Height => b"height",
-            Mark::Count => b"count",
-        }
-    }
-}
+use law_lines::{Bounds, Ending, Key, Place, ReadKind, Row, Stage, Token, Want};
+use law_text::{index, is_word_of_letters, number};
 
 fn within(bounds: Bounds, most: usize, n: usize) -> bool
     ensures { result ≡ within bounds most n }

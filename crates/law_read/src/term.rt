@@ -1,23 +1,21 @@
 ghost use Rattle.std.specs.Prelude.{◌≡◌, ℕ, ◌+◌, ◌≤◌, ◌<◌, Bool, true, List, [], ◌∷◌, Some, None, IfOk, IsTrue, MatchResult, length};
-ghost use Rattle.law_text.specs.Pieces.{pieces};
-ghost use Rattle.law_read.specs.declared.want.Want.TheVariants as w;
-ghost use Rattle.law_read.specs.declared.want.Row.TheVariants as r;
-ghost use Rattle.law_read.specs.declared.want.Ending.TheVariants as e;
-ghost use Rattle.law_read.specs.declared.want.Bounds.TheVariants.{Kept};
-ghost use Rattle.law_read.specs.declared.want.Want.{Want};
-ghost use Rattle.law_read.specs.declared.want.Place.TheVariants as p;
-ghost use Rattle.law_read.specs.Walk.{before_item, behind, is_atom, is_numbered, is_variable, item_place, walk};
-ghost use Rattle.law_read.specs.Numbers.{cut};
-ghost use Rattle.law_read.specs.Reads.{Stops, StopsAt};
-ghost use Rattle.law_read.specs.Rows.{AtomRead, BehindRead, BracketRead, IsNameRow, IsRootEnding, IsTermRow, ItemStep, NamesRead, NameStep, RootRead, RowRead, RowStep};
+ghost use Rattle.law_lines.specs.Pieces.{pieces};
+ghost use Rattle.law_lines.specs.declared.want.Want.TheVariants as w;
+ghost use Rattle.law_lines.specs.declared.want.Row.TheVariants as r;
+ghost use Rattle.law_lines.specs.declared.want.Ending.TheVariants as e;
+ghost use Rattle.law_lines.specs.declared.want.Bounds.TheVariants.{Kept};
+ghost use Rattle.law_lines.specs.declared.want.Want.{Want};
+ghost use Rattle.law_lines.specs.declared.want.Place.TheVariants as p;
+ghost use Rattle.law_lines.specs.Walk.{before_item, behind, is_atom, is_numbered, is_variable, item_place, walk};
+ghost use Rattle.law_lines.specs.Numbers.{cut};
+ghost use Rattle.law_lines.specs.Reads.{Stops, StopsAt};
+ghost use Rattle.law_lines.specs.Rows.{AtomRead, BehindRead, BracketRead, IsNameRow, IsRootEnding, IsTermRow, ItemStep, NamesRead, NameStep, RootRead, RowRead, RowStep};
 
-use crate::error::Stop;
 use crate::part::{fixed, gap, owned, want, word};
-use crate::raw::{RawHead, RawTerm};
 use crate::take::{cut, is_mark};
-use crate::want::{Ending, Mark, Place, Row, Want};
+use law_lines::{Ending, Mark, Place, RawHead, RawTerm, Row, Stop, Token, Want};
 use law_sig::{NoMemory, Seq, Text};
-use law_text::{Line, Token, index, is_name, is_word_of_letters};
+use law_text::{Line, index, is_name, is_word_of_letters};
 use std::alloc::Global;
 
 fn item_place(row: Row) -> Place
@@ -86,7 +84,7 @@ fn numbered(bytes: &[u8]) -> Result<RawHead, NoMemory>
 }
 
 /// Whether a row goes on, behind the space that was read then; else it ended here.
-#[tactic(auto, using(crate::proofs::RowSteps::row_steps))]
+#[tactic(auto, using(law_lines::proofs::RowSteps::row_steps))]
 fn more(
     line: &mut Line<'_>,
     nodes: u32,
@@ -119,7 +117,7 @@ fn more(
 /// The next item of a row, behind its space, and the nodes of its term then; `None` where the fixed
 /// word behind the row stands in its place.
 #[cycle(rows)]
-#[tactic(auto, using(crate::proofs::RowSteps::row_steps))]
+#[tactic(auto, using(law_lines::proofs::RowSteps::row_steps))]
 fn item(
     alloc: Global,
     line: &mut Line<'_>,
@@ -176,7 +174,7 @@ fn item(
 /// A term in brackets, behind the opening one, and the nodes of the whole term then. Its arguments
 /// stand at this level.
 #[cycle(rows)]
-#[tactic(auto, using(crate::proofs::RowSteps::row_steps))]
+#[tactic(auto, using(law_lines::proofs::RowSteps::row_steps))]
 fn bracket(
     alloc: Global,
     line: &mut Line<'_>,
@@ -210,7 +208,7 @@ fn bracket(
 
 /// The terms of a row, and the nodes of the whole term then.
 #[cycle(rows)]
-#[tactic(auto, using(crate::proofs::RowSteps::row_steps))]
+#[tactic(auto, using(law_lines::proofs::RowSteps::row_steps))]
 pub fn args(
     alloc: Global,
     line: &mut Line<'_>,

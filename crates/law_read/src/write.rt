@@ -1,10 +1,9 @@
 ghost use Rattle.std.specs.Prelude.{◌≡◌, ◌++◌, ◌∷◌, [], map, decimal, IfOk, OnOk};
-ghost use Rattle.law_read.specs.Lines.{IsDeclaration};
-ghost use Rattle.law_read.specs.declared.raw.RawLine.TheVariants.{Background, PoolsSeed};
-ghost use Rattle.law_read.specs.Spelling.{head_spelling, arg_spelling, term_spelling, term_words, line_spelling, sig_spelling, spaced};
+ghost use Rattle.law_lines.specs.Lines.{IsDeclaration};
+ghost use Rattle.law_lines.specs.declared.raw.RawLine.TheVariants.{Background, PoolsSeed};
+ghost use Rattle.law_lines.specs.Spelling.{head_spelling, arg_spelling, term_spelling, term_words, line_spelling, sig_spelling, spaced};
 
-use crate::raw::{RawHead, RawLine, RawTerm};
-use crate::sig::RawSig;
+use law_lines::{RawHead, RawLine, RawSig, RawTerm};
 use law_sig::{NoMemory, Text};
 use law_text::put_number;
 use std::alloc::Global;
@@ -13,20 +12,13 @@ use std::alloc::Global;
 pub fn write_sig(alloc: Global, raw: &RawSig) -> Result<Text, NoMemory>
     ensures { IfOk result (λ text. text ≡ sig_spelling raw.now) }
 {
-    write_lines(alloc, raw.lines())
-}
-
-/// The text of these lines, each with its line feed, whether or not they make up a signature.
-pub fn write_lines(alloc: Global, lines: &[RawLine]) -> Result<Text, NoMemory>
-    ensures { IfOk result (λ text. text ≡ sig_spelling lines.now) }
-{
     let mut text = Text::new(alloc);
-    put_lines(&mut text, lines)?;
+    put_lines(&mut text, raw.lines())?;
     Ok(text)
 }
 
 /// Adds these lines, each with its line feed.
-pub fn put_lines(out: &mut Text, lines: &[RawLine]) -> Result<(), NoMemory>
+fn put_lines(out: &mut Text, lines: &[RawLine]) -> Result<(), NoMemory>
     ensures { OnOk result (out.new ≡ out.old ++ sig_spelling lines.now) }
 {
     for line in lines {
@@ -42,6 +34,15 @@ pub fn write_term(alloc: Global, term: &RawTerm) -> Result<Text, NoMemory>
 {
     let mut text = Text::new(alloc);
     put_term(&mut text, term)?;
+    Ok(text)
+}
+
+/// The text of a term as an argument: in brackets where it has arguments of its own.
+pub fn write_arg(alloc: Global, term: &RawTerm) -> Result<Text, NoMemory>
+    ensures { IfOk result (λ text. text ≡ arg_spelling term.now) }
+{
+    let mut text = Text::new(alloc);
+    put_arg(&mut text, term)?;
     Ok(text)
 }
 
@@ -67,7 +68,7 @@ fn put_head(out: &mut Text, head: &RawHead) -> Result<(), NoMemory>
 }
 
 /// Adds a term as an argument.
-pub fn put_arg(out: &mut Text, term: &RawTerm) -> Result<(), NoMemory>
+fn put_arg(out: &mut Text, term: &RawTerm) -> Result<(), NoMemory>
     ensures { OnOk result (out.new ≡ out.old ++ arg_spelling term.now) }
 {
     if term.args.len() == 0 {
@@ -90,7 +91,7 @@ fn put_term(out: &mut Text, term: &RawTerm) -> Result<(), NoMemory>
 }
 
 /// Adds each word of the term, behind a space.
-pub fn put_words(out: &mut Text, term: &RawTerm) -> Result<(), NoMemory>
+fn put_words(out: &mut Text, term: &RawTerm) -> Result<(), NoMemory>
     ensures { OnOk result (out.new ≡ out.old ++ spaced (term_words term.now)) }
 {
     out.push(b' ')?;
@@ -107,7 +108,7 @@ fn put_background(out: &mut Text, left: &RawTerm, right: &RawTerm) -> Result<(),
 }
 
 /// Adds each argument, behind a space.
-pub fn put_args(out: &mut Text, terms: &[RawTerm]) -> Result<(), NoMemory>
+fn put_args(out: &mut Text, terms: &[RawTerm]) -> Result<(), NoMemory>
     ensures { OnOk result (out.new ≡ out.old ++ spaced (map arg_spelling terms.now)) }
 {
     for term in terms {
@@ -128,7 +129,7 @@ fn put_names(out: &mut Text, names: &[Text]) -> Result<(), NoMemory>
 }
 
 /// Adds a word, behind a space.
-pub fn put_word(out: &mut Text, word: &[u8]) -> Result<(), NoMemory>
+fn put_word(out: &mut Text, word: &[u8]) -> Result<(), NoMemory>
     ensures { OnOk result (out.new ≡ out.old ++ 32 ∷ word.now) }
 {
     out.push(b' ')?;
@@ -136,7 +137,7 @@ pub fn put_word(out: &mut Text, word: &[u8]) -> Result<(), NoMemory>
 }
 
 /// Adds a number, behind a space.
-pub fn put_numeral(out: &mut Text, n: u64) -> Result<(), NoMemory>
+fn put_numeral(out: &mut Text, n: u64) -> Result<(), NoMemory>
     ensures { OnOk result (out.new ≡ out.old ++ 32 ∷ decimal n) }
 {
     out.push(b' ')?;

@@ -1,5 +1,5 @@
 -- Words on lists that the definitions share.
-use Rattle.std.specs.Prelude.{◌≢◌, ℕ, ◌+◌, ◌*◌, List, [], ◌∷◌}
+use Rattle.std.specs.Prelude.{◌≢◌, ℕ, zero, suc, ◌+◌, ◌*◌, List, [], ◌∷◌, Option, None, slice_get}
 
 -- x stands somewhere in the list
 pub data In {A : Type 0} : A → List A → Type 0 where
@@ -19,6 +19,11 @@ Rising R (x ∷ xs) = Each (R x) xs × Rising R xs
 -- no item stands twice
 abbrev pub AreDistinct : {A : Type 0} → List A → Type 0
 AreDistinct xs = Rising (λ x y. x ≢ y) xs
+
+-- the item with a number, counted from 1
+abbrev pub numbered : {A : Type 0} → List A → ℕ → Option A
+numbered xs zero = None
+numbered xs (suc n) = slice_get xs n
 
 -- the sum of the numbers
 abbrev pub total : List ℕ → ℕ

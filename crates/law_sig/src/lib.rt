@@ -1,6 +1,7 @@
 //! Signatures of algebraic types and of functions by structural recursion, and the terms over them.
 #![tactic(auto)]
 
+mod chain;
 mod counts;
 mod parts;
 mod seq;
@@ -8,6 +9,7 @@ mod sig;
 mod text;
 mod tree;
 
+pub use chain::{Bind, Dir, Step};
 pub use parts::{Con, Equation, Fun, PoolRule, Settings, SigParts, Sym};
 pub use seq::{NoMemory, Seq};
 pub use sig::Sig;

@@ -1,11 +1,14 @@
-ghost use Rattle.std.specs.Prelude.{◌≡◌, ◌<◌, List, None, IfOk, IsErrOf};
+ghost use Rattle.std.specs.Prelude.{◌≡◌, ◌<◌, ◌^◌, List, None, IfOk, IsErrOf};
 ghost use Rattle.law_sig.specs.declared.tree.Tree.{Tree};
 ghost use Rattle.law_value.specs.Values.{Grows};
+ghost use Rattle.law_own.specs.Own.{vars_of};
+ghost use Rattle.law_pool.specs.Table.{IsFor};
+ghost use Rattle.law_pool.specs.Wheels.{IsTrackOf};
 ghost use Rattle.law_test.specs.Values.{ArePools, IsTestable, IsValue, tests_by, val_by};
 
 use law_eval::{EvalErr, apply};
-use law_pool::Pools;
-use law_sig::{Seq, Sig, Tree};
+use law_pool::{OwnTests, Pools};
+use law_sig::{NoMemory, Seq, Sig, Tree};
 use law_value::{ValueBank, ValueId};
 use std::alloc::Global;
 
@@ -23,6 +26,16 @@ impl<'s> Tester<'s> {
         ensures { (bank : List Tree) → ArePools self.now.sig.now bank self.now.pools.now → result ≡ tests_by self.now.sig.now }
     {
         self.pools.tests()
+    }
+
+    /// The own tests of the variables of two terms.
+    pub fn own_tests(&self, left: &Tree, right: &Tree) -> Result<OwnTests, NoMemory>
+        requires { IsFor self.now.sig.now self.now.pools.now }
+        ensures own { IfOk result (IsTrackOf self.now.sig.now (vars_of left.now right.now)) }
+        ensures few { (bank : List Tree) → ArePools self.now.sig.now bank self.now.pools.now → tests_by self.now.sig.now < 2 ^ 63 }
+    {
+        let _few = self.pools.tests();
+        OwnTests::of(self.alloc, self.sig, left, right)
     }
 
     /// The value of a term at a test, node by node, each application with the full budget.

@@ -3,12 +3,8 @@
 
 mod line;
 mod split;
-mod token;
 mod words;
 
+pub use law_lines::{Span, Token};
 pub use line::Line;
-pub use token::{Span, Token};
 pub use words::{index, is_name, is_word_of_letters, number, put_number};
-
-#[cfg(test)]
-mod tests;

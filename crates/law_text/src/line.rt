@@ -1,8 +1,8 @@
 ghost use Rattle.std.specs.Prelude.{◌≡◌, MatchOption};
-ghost use Rattle.law_text.specs.Pieces.{IsNext, IsAtEnd};
+ghost use Rattle.law_lines.specs.Pieces.{IsNext, IsAtEnd};
 
 use crate::split::first_piece;
-use crate::token::{Span, Token};
+use law_lines::{Span, Token};
 use std::marker::Model;
 
 /// A line that is gone through piece by piece.
@@ -14,7 +14,7 @@ pub struct Line<'t> {
 
 impl<'t> Model for Line<'t> {
     ghost use Rattle.std.specs.Prelude.{◌+◌, ◌<◌, ◌^◌, length};
-    ghost use Rattle.law_text.specs.Pieces.{Place};
+    ghost use Rattle.law_lines.specs.Pieces.{Place};
 
     ghost Value = { Place };
 

@@ -1,8 +1,8 @@
 ghost use Rattle.std.specs.Prelude.{◌≡◌, ◌≤◌, [], length, MatchOption};
 ghost use Rattle.std.specs.List.{prefix_len};
-ghost use Rattle.law_text.specs.Pieces.{FirstPiece, is_plain, piece_of};
+ghost use Rattle.law_lines.specs.Pieces.{FirstPiece, is_plain, piece_of};
 
-use crate::token::Token;
+use law_lines::Token;
 
 /// The first piece of some bytes, and the bytes behind it; `None` where there are no bytes.
 pub(crate) fn first_piece(bytes: &[u8]) -> Option<(Token<'_>, &[u8])>

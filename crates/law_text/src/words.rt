@@ -1,6 +1,6 @@
 ghost use Rattle.std.specs.Prelude.{◌≡◌, ℕ, ◌≢◌, ◌+◌, ◌-◌, ◌*◌, ◌^◌, ◌<◌, ◌≤◌, IsTrue, ◌++◌, [], ◌∷◌, None, nat_lt, decimal, IfSome, OnOk, OnErr};
 ghost use Rattle.std.specs.List.{list_all};
-ghost use Rattle.law_text.specs.Words.{is_digit, is_letter, is_name, is_name_byte, is_numeral, is_word_of_letters, digits_on, some_if, number_below};
+ghost use Rattle.law_lines.specs.Words.{is_digit, is_letter, is_name, is_name_byte, is_numeral, is_word_of_letters, digits_on, some_if, number_below};
 
 use itoa::Buffer;
 use law_sig::{NoMemory, Text};

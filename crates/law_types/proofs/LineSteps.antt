@@ -1,14 +1,14 @@
 -- A line and the lines behind it.
 use Rattle.std.proofs.Common.{◌≡◌, ℕ, suc, ◌+◌, List, [], ◌∷◌, drop, Some, slice_get, refl, sym, ap, ◌∙◌, arith}
-use Rattle.law_read.specs.declared.raw.RawLine.{RawLine}
-use Rattle.law_read.specs.declared.raw.RawLine.TheVariants as line
-use Rattle.law_types.specs.TermFaults.{first_of}
-use Rattle.law_types.specs.LineFaults.{setting_fault, declared_fault, line_fault, fault_at, seen_after, faults_from}
-use Rattle.law_types.specs.declared.errors.TypeErr.TheVariants as err
-use Rattle.law_types.specs.declared.errors.TypeKind.{TypeKind}
-use Rattle.law_types.specs.declared.seen.Seen.{Seen}
-use Rattle.law_types.specs.declared.whole.Whole.{Whole}
-use Rattle.law_types.proofs.TermFacts.{drop_some}
+use Rattle.law_lines.specs.declared.raw.RawLine.{RawLine}
+use Rattle.law_lines.specs.declared.raw.RawLine.TheVariants as line
+use Rattle.law_typing.specs.TermFaults.{first_of}
+use Rattle.law_typing.specs.LineFaults.{setting_fault, declared_fault, line_fault, fault_at, seen_after, faults_from}
+use Rattle.law_typing.specs.declared.errors.TypeErr.TheVariants as err
+use Rattle.law_typing.specs.declared.errors.TypeKind.{TypeKind}
+use Rattle.law_typing.specs.declared.seen.Seen.{Seen}
+use Rattle.law_typing.specs.declared.whole.Whole.{Whole}
+use Rattle.law_typing.proofs.TermFacts.{drop_some}
 
 -- a line of settings, or of a declaration
 abbrev pub IsPlain : RawLine → Type 0

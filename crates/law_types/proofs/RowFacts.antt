@@ -6,7 +6,7 @@ use Rattle.law_sig.specs.declared.tree.SortId.{SortId}
 use Rattle.law_sig.specs.declared.tree.SymId.{SymId}
 use Rattle.law_laws.proofs.BodyFacts.{some_is}
 use Rattle.law_types.specs.Rows.{AreRows, HasRows}
-use Rattle.law_types.specs.declared.whole.Whole.{Whole}
+use Rattle.law_typing.specs.declared.whole.Whole.{Whole}
 
 pub are_rows : (text : Whole) (count : ℕ) (rows : List (List SymId)) → HasRows text count rows → AreRows text rows
 are_rows text count rows has sort row e =

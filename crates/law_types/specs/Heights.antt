@@ -4,8 +4,8 @@ use Rattle.std.specs.List.{list_any}
 use Rattle.law_sig.specs.WellFormed.{makes_from}
 use Rattle.law_sig.specs.declared.tree.SortId.{SortId}
 use Rattle.law_sig.specs.declared.parts.Sym.{Sym}
-use Rattle.law_types.specs.Declarations.{is_low}
-use Rattle.law_types.specs.declared.whole.Whole.{Whole}
+use Rattle.law_typing.specs.Declarations.{is_low}
+use Rattle.law_typing.specs.declared.whole.Whole.{Whole}
 
 -- for each sort whether it has a value of at most this height
 pub record AreLow (text : Whole) (height : ℕ) (lows : List Bool) : Type 0 where

@@ -1,12 +1,3 @@
-pub mod Names
-pub mod TypedTerm
-pub mod Rows
 pub mod Heights
-pub mod Table
-pub mod Declarations
-pub mod TermFaults
-pub mod LineFaults
-pub mod Naming
-pub mod Typed
-pub mod Stated
-pub mod Laws
+pub mod Rows
+pub mod Valued

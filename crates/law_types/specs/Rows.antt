@@ -3,7 +3,7 @@ use Rattle.std.specs.Prelude.{◌≡◌, ◌<◌, ℕ, List, length, Some, slice
 use Rattle.law_sig.specs.Signature.{constructors_from}
 use Rattle.law_sig.specs.declared.tree.SortId.{SortId}
 use Rattle.law_sig.specs.declared.tree.SymId.{SymId}
-use Rattle.law_types.specs.declared.whole.Whole.{Whole}
+use Rattle.law_typing.specs.declared.whole.Whole.{Whole}
 
 -- a row that there is has the constructors of its sort
 abbrev pub AreRows : Whole → List (List SymId) → Type 0

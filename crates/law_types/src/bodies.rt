@@ -1,18 +1,18 @@
 ghost use Rattle.std.specs.Prelude.{◌≡◌, [], ◌∷◌, Some, map, slice_get, IfOk};
 ghost use Rattle.std.specs.Option.{option_copied};
 ghost use Rattle.law_sig.specs.WellFormed.{is_function};
-ghost use Rattle.law_types.specs.Names.{number_of};
+ghost use Rattle.law_typing.specs.Names.{number_of};
 ghost use Rattle.law_types.specs.Rows.{AreRows};
-ghost use Rattle.law_types.specs.TermFaults.{symbol_of};
-ghost use Rattle.law_types.specs.LineFaults.{case_names};
-ghost use Rattle.law_types.specs.Stated.{short, symbol_id, tree_over, stated_tree, symbol_body, body_over, stated_body, case_body, stated_case, stated_cases, stated_bodies, stated_place, filled};
+ghost use Rattle.law_typing.specs.TermFaults.{symbol_of};
+ghost use Rattle.law_typing.specs.LineFaults.{case_names};
+ghost use Rattle.law_typing.specs.Stated.{short, symbol_id, tree_over, stated_tree, symbol_body, body_over, stated_body, case_body, stated_case, stated_cases, stated_bodies, stated_place, filled};
 
 use crate::cases::{case_names, constructors};
-use crate::names::Names;
 use crate::terms::{is_function, sort_at};
-use crate::whole::{Whole, sort_id};
-use law_read::{RawHead, RawLine, RawTerm};
+use crate::whole::sort_id;
+use law_lines::{RawHead, RawLine, RawTerm};
 use law_sig::{Body, Fun, NoMemory, Seq, SortId, Sym, SymId, Text, Tree};
+use law_typing::{Names, Whole};
 use std::alloc::Global;
 
 /// A number in 32 bits, or the last of these where it is larger.

@@ -2,18 +2,15 @@ ghost use Rattle.std.specs.Prelude.{◌≡◌, ◌&&◌, ◌||◌, ◌<◌, ◌^
 ghost use Rattle.std.specs.List.{list_all};
 ghost use Rattle.law_sig.specs.Signature.{constructors_from, makes_sort, args_of, result_of};
 ghost use Rattle.law_sig.specs.WellFormed.{is_function};
-ghost use Rattle.law_types.specs.Names.{number_of};
+ghost use Rattle.law_typing.specs.Names.{number_of};
 ghost use Rattle.law_types.specs.Rows.{AreRows};
-ghost use Rattle.law_types.specs.LineFaults.{owner, case_names, has_case, match_faults, wrong_case, matched, symbol_case_faults, case_faults};
+ghost use Rattle.law_typing.specs.LineFaults.{owner, case_names, has_case, match_faults, wrong_case, matched, symbol_case_faults, case_faults};
 
-use crate::errors::TypeKind;
 use crate::lines::{body_fault, own_sorts, owner};
-use crate::names::Names;
-use crate::seen::Seen;
 use crate::terms::{args_of, fault_if, is_function, result_of, sort_at};
-use crate::whole::Whole;
-use law_read::{RawLine, RawTerm};
+use law_lines::{RawLine, RawTerm};
 use law_sig::{NoMemory, Seq, SortId, Sym, SymId, Text};
+use law_typing::{Names, Seen, TypeKind, Whole};
 use std::alloc::Global;
 
 /// Whether a symbol is a constructor of this sort.

@@ -1,22 +1,22 @@
 ghost use Rattle.std.specs.Prelude.{◌≡◌, ◌+◌, ◌<◌, drop, length, None, IfOk, IfErr};
-ghost use Rattle.law_read.specs.Signature.{IsRawSig};
+ghost use Rattle.law_lines.specs.Signature.{IsRawSig};
 ghost use Rattle.law_types.specs.Heights.{AreLow};
 ghost use Rattle.law_types.specs.Rows.{AreRows};
-ghost use Rattle.law_types.specs.Declarations.{whole};
-ghost use Rattle.law_types.specs.Typed.{IsTypedAs, StatesNothing};
-ghost use Rattle.law_types.specs.LineFaults.{setting_fault, declared_fault, line_fault, nothing_seen, faults_from, first_fault, TellsFault};
+ghost use Rattle.law_typing.specs.Declarations.{whole};
+ghost use Rattle.law_typing.specs.Typed.{IsTypedAs, StatesNothing};
+ghost use Rattle.law_typing.specs.LineFaults.{setting_fault, declared_fault, line_fault, nothing_seen, faults_from, first_fault, TellsFault};
 
 use crate::cases::{case_fault, match_fault, rows};
-use crate::errors::{TypeErr, TypeKind};
-use crate::heights::lows_at;
 use crate::lines::{body_fault, con_fault, fun_fault, out_of, own_sorts, sort_fault};
-use crate::seen::Seen;
+use crate::seen::{nothing_seen, seen_after};
 use crate::stated::stated;
 use crate::tail::{background_fault, explored_faults, pool_fault, seed_fault, values_fault};
 use crate::terms::sort_at;
-use crate::whole::{Whole, read_whole};
-use law_read::{RawLine, RawSig};
+use crate::valued::valued;
+use crate::whole::read_whole;
+use law_lines::{RawLine, RawSig};
 use law_sig::{NoMemory, Seq, Sig, SymId};
+use law_typing::{Seen, TypeErr, TypeKind, Whole};
 use std::alloc::Global;
 
 /// The fault of a line of settings.
@@ -117,7 +117,7 @@ fn walk(
     requires rows { AreRows text.now rows.now }
     ensures { TellsFault result (faults_from text.now nothing_seen 1 lines.now) }
 {
-    let mut seen = Seen::new(alloc);
+    let mut seen = nothing_seen(alloc);
     for (at, line) in lines.iter().enumerate() {
         let rest = lines_behind(lines, at);
         let fault = line_fault(alloc, text, has, rows, &seen, rest, line)?;
@@ -125,7 +125,7 @@ fn walk(
             let line = at as u64 + 1;
             return Err(TypeErr::At { line, kind });
         }
-        seen = seen.after(alloc, line)?;
+        seen = seen_after(alloc, seen, line)?;
     }
     Ok(())
 }
@@ -144,22 +144,9 @@ fn prepare(alloc: Global, lines: &[RawLine]) -> Result<Prepared, NoMemory>
     ensures rows { IfOk result (λ p. AreRows p.text p.rows) }
 {
     let text = read_whole(alloc, lines)?;
-    let has = lows_at(alloc, &text, text.sorts.len() as u64 + 1)?;
+    let has = valued(alloc, &text)?;
     let rows = rows(alloc, &text)?;
     Ok(Prepared { text, has, rows })
-}
-
-/// Whether no line of a text shows a fault; else the first that does, with its first fault, and no signature is stated.
-pub fn check_lines(alloc: Global, lines: &[RawLine]) -> Result<(), TypeErr>
-    ensures first { TellsFault result (first_fault lines.now) }
-    ensures nothing { IfErr result (λ e. StatesNothing lines.now e) }
-{
-    let prepared = prepare(alloc, lines)?;
-    let (text, has, rows) = (&prepared.text, &prepared.has, &prepared.rows);
-    if let Err(e) = walk(alloc, text, has.as_slice(), rows.as_slice(), lines) {
-        return Err(e);
-    }
-    Ok(())
 }
 
 /// The signature that the lines of a text without faults state.

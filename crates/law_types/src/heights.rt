@@ -1,14 +1,14 @@
-ghost use Rattle.std.specs.Prelude.{◌≡◌, ◌+◌, ◌<◌, length, false, true, replicate, IfOk, IsTrue};
+ghost use Rattle.std.specs.Prelude.{◌≡◌, ◌+◌, length, false, replicate, IfOk};
 ghost use Rattle.std.specs.List.{list_all};
-ghost use Rattle.law_types.specs.Declarations.{is_low, has_value};
+ghost use Rattle.law_typing.specs.Declarations.{is_low, has_value};
 ghost use Rattle.law_types.specs.Heights.{AreLow, marked};
 
-use crate::whole::Whole;
 use law_sig::{NoMemory, SortId, Sym};
+use law_typing::Whole;
 use std::alloc::Global;
 
 /// So many times false.
-fn none_low(alloc: Global, count: u32) -> Result<Vec<bool>, NoMemory>
+pub(crate) fn none_low(alloc: Global, count: u32) -> Result<Vec<bool>, NoMemory>
     ensures { IfOk result (λ lows. lows.items ≡ replicate count false) }
 {
     let mut lows = Vec::new(alloc);
@@ -54,7 +54,7 @@ fn all_low(text: &Whole, height: u64, lows: &[bool], sorts: &[SortId]) -> bool
 }
 
 /// Marks a place, where there is something to mark.
-fn mark(lows: &mut Vec<bool>, low: bool, place: u32)
+pub(crate) fn mark(lows: &mut Vec<bool>, low: bool, place: u32)
     ensures { lows.new.items ≡ marked low place lows.old.items }
 {
     if low && (place as usize) < lows.len() {
@@ -78,43 +78,14 @@ fn next_low(alloc: Global, text: &Whole, height: u64, lows: &[bool]) -> Result<V
     Ok(next)
 }
 
-/// Whether two tables of one length are the same.
-fn is_same(left: &[bool], right: &[bool]) -> bool
-    requires { length left.now ≡ length right.now }
-    ensures { result ≡ true → left.now ≡ right.now }
-{
-    for (at, low) in left.iter().enumerate() {
-        if *low != right[at] {
-            return false;
-        }
-    }
-    true
-}
-
-/// Whether the next height changes nothing, where it isn't the first.
-fn is_still(at: u64, lows: &Vec<bool>, next: &Vec<bool>) -> bool
-    requires { length lows.now.items ≡ length next.now.items }
-    ensures { result ≡ true → (0 < at) × (lows.now.items ≡ next.now.items) }
-{
-    if at == 0 {
-        return false;
-    }
-    is_same(lows.as_slice(), next.as_slice())
-}
-
-/// The table for a height. From a height on that changes nothing it stays the same.
+/// The table for a height, round by round.
 #[tactic(auto, using(crate::proofs::HeightFacts::height_facts))]
 pub(crate) fn lows_at(alloc: Global, text: &Whole, height: u64) -> Result<Vec<bool>, NoMemory>
     ensures { IfOk result (λ lows. AreLow text.now height lows.items) }
 {
     let mut lows = none_low(alloc, text.sorts.len())?;
     for at in 0..height {
-        let next = next_low(alloc, text, at, lows.as_slice())?;
-        let still = is_still(at, &lows, &next);
-        if still {
-            return Ok(lows);
-        }
-        lows = next;
+        lows = next_low(alloc, text, at, lows.as_slice())?;
     }
     Ok(lows)
 }

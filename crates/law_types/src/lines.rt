@@ -1,18 +1,14 @@
 ghost use Rattle.std.specs.Prelude.{◌≡◌, ◌+◌, length, IfOk};
-ghost use Rattle.law_types.specs.Names.{stands_before};
+ghost use Rattle.law_typing.specs.Names.{stands_before};
 ghost use Rattle.law_types.specs.Heights.{AreLow};
-ghost use Rattle.law_types.specs.LineFaults.{out_of, sort_faults, unknown_sort, unknown_sorts, name_faults, con_faults, fun_faults, owner, own_symbol, sort_given, body_scope, body_fault};
-ghost use Rattle.law_types.specs.TermFaults.{wanted_of};
+ghost use Rattle.law_typing.specs.LineFaults.{out_of, sort_faults, unknown_sort, unknown_sorts, name_faults, con_faults, fun_faults, owner, own_symbol, sort_given, body_scope, body_fault};
+ghost use Rattle.law_typing.specs.TermFaults.{wanted_of};
 
-use crate::errors::TypeKind;
 use crate::heights::has_value;
-use crate::names::Names;
-use crate::scope::{Scope, Standing};
-use crate::seen::Seen;
 use crate::terms::{args_of, fault_if, result_of, term_fault};
-use crate::whole::Whole;
-use law_read::RawTerm;
+use law_lines::RawTerm;
 use law_sig::{NoMemory, Seq, SortId, Text};
+use law_typing::{Names, Scope, Seen, Standing, TypeKind, Whole};
 use std::alloc::Global;
 
 /// Where a number is outside of a range, both ends included.

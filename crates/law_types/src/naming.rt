@@ -1,7 +1,7 @@
 ghost use Rattle.std.specs.Prelude.{◌≡◌, [], slice_index_or, IfOk};
-ghost use Rattle.law_types.specs.Naming.{sort_name, symbol_name, named_term};
+ghost use Rattle.law_typing.specs.Naming.{sort_name, symbol_name, named_term};
 
-use law_read::{RawHead, RawTerm};
+use law_lines::{RawHead, RawTerm};
 use law_sig::{NoMemory, Seq, Sig, SortId, SymId, Text, Tree};
 use std::alloc::Global;
 

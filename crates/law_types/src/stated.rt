@@ -1,13 +1,14 @@
 ghost use Rattle.std.specs.Prelude.{◌≡◌, ◌++◌, map, IfOk, OnOk};
-ghost use Rattle.law_types.specs.Declarations.{gathered, sort_names};
+ghost use Rattle.law_typing.specs.Declarations.{gathered, sort_names};
 ghost use Rattle.law_types.specs.Rows.{AreRows};
-ghost use Rattle.law_types.specs.Stated.{short, symbol_id, stated_tree, stated_symbols, size_in, budget_in, pairs_in, weight_of, explored_of, equation_of, stated_values, stated_pools, stated_rule, stated};
+ghost use Rattle.law_typing.specs.Stated.{short, symbol_id, stated_tree, stated_symbols, size_in, budget_in, pairs_in, weight_of, explored_of, equation_of, stated_values, stated_pools, stated_rule, stated};
 
 use crate::bodies::{filled, short, stated_tree, symbol_id};
 use crate::check::lines_behind;
-use crate::whole::{Whole, declared_in, sort_in};
-use law_read::{RawLine, RawTerm};
+use crate::whole::{declared_in, sort_in};
+use law_lines::{RawLine, RawTerm};
 use law_sig::{Equation, NoMemory, PoolRule, Seq, Settings, SigParts, Sym, SymId, Text, Tree};
+use law_typing::Whole;
 use std::alloc::Global;
 
 /// The symbols with their bodies.

@@ -1,18 +1,14 @@
 ghost use Rattle.std.specs.Prelude.{◌≡◌, ◌+◌, length, [], None, Some, slice_get, IfOk};
-ghost use Rattle.law_types.specs.Names.{number_of};
+ghost use Rattle.law_typing.specs.Names.{number_of};
 ghost use Rattle.law_types.specs.Heights.{AreLow};
-ghost use Rattle.law_types.specs.LineFaults.{is_too_low, some_too_low, seed_faults, explored_fault, explored_faults, side_scope, value_scope, name_sort, root_sort, sides_mismatch, background_faults, values_count, pool_faults, is_width, each_value_fault, values_faults};
+ghost use Rattle.law_typing.specs.LineFaults.{is_too_low, some_too_low, seed_faults, explored_fault, explored_faults, side_scope, value_scope, name_sort, root_sort, sides_mismatch, background_faults, values_count, pool_faults, is_width, each_value_fault, values_faults};
 
-use crate::errors::TypeKind;
 use crate::heights::{has_low, has_value, lows_at};
 use crate::lines::out_of;
-use crate::names::Names;
-use crate::scope::{Scope, Standing};
-use crate::seen::Seen;
 use crate::terms::{fault_if, mismatch, result_of, term_fault};
-use crate::whole::Whole;
-use law_read::{RawHead, RawLine, RawTerm};
+use law_lines::{RawHead, RawLine, RawTerm};
 use law_sig::{NoMemory, Seq, SortId, Text};
+use law_typing::{Names, Scope, Seen, Standing, TypeKind, Whole};
 use std::alloc::Global;
 
 /// Whether a height is below the least height of a sort that has a value.

@@ -1,14 +1,12 @@
 ghost use Rattle.std.specs.Prelude.{◌≡◌, ◌==◌, ◌&&◌, not, nat_lt, length, map, Some, None, slice_get};
 ghost use Rattle.law_sig.specs.WellFormed.{is_function};
 ghost use Rattle.law_sig.specs.Signature.{args_of, result_of};
-ghost use Rattle.law_types.specs.Names.{number_of};
-ghost use Rattle.law_types.specs.TermFaults.{fault_if, mismatch, is_value, is_body, falls_at, symbol_faults, name_faults, variable_faults, atom_faults, is_in_range, root_faults, head_symbol, wanted_of, is_field_term, term_fault};
+ghost use Rattle.law_typing.specs.Names.{number_of};
+ghost use Rattle.law_typing.specs.TermFaults.{fault_if, mismatch, is_value, is_body, falls_at, symbol_faults, name_faults, variable_faults, atom_faults, is_in_range, root_faults, head_symbol, wanted_of, is_field_term, term_fault};
 
-use crate::errors::TypeKind;
-use crate::scope::{Scope, Standing};
-use crate::whole::Whole;
-use law_read::{RawHead, RawTerm};
+use law_lines::{RawHead, RawTerm};
 use law_sig::{SortId, Sym, Text};
+use law_typing::{Scope, Standing, TypeKind, Whole};
 
 /// The fault where the test holds.
 pub(crate) fn fault_if(holds: bool, fault: TypeKind) -> Option<TypeKind>
@@ -246,7 +244,7 @@ fn wanted_sorts<'t>(text: &'t Whole, head: &RawHead) -> &'t [SortId]
 
 /// The first fault of a term of which a sort, or none, is wanted: that of the root, and then those of the arguments, from
 /// left to right.
-#[tactic(auto, using(crate::proofs::TermFacts::term_facts))]
+#[tactic(auto, using(law_typing::proofs::TermFacts::term_facts))]
 pub(crate) fn term_fault(
     text: &Whole,
     scope: &Scope,

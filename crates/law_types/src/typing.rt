@@ -1,14 +1,14 @@
 ghost use Rattle.std.specs.Prelude.{◌≡◌, Some, length, slice_get, IfOk};
-ghost use Rattle.law_types.specs.Names.{same_name, is_named, number_of};
-ghost use Rattle.law_types.specs.TypedTerm.{IsTyped, tree_over, tree_of};
+ghost use Rattle.law_typing.specs.Names.{same_name, is_named, number_of};
+ghost use Rattle.law_typing.specs.TypedTerm.{IsTyped, tree_over, tree_of};
 
-use law_read::{RawHead, RawTerm};
+use law_lines::{RawHead, RawTerm};
 use law_sig::{NoMemory, Seq, Sig, SortId, SymId, Text, Tree};
 use std::alloc::Global;
 
 /// The term that a written term states; `None` exactly where it isn't well-sorted, over the declared symbols and variables
 /// of declared sorts with any index.
-#[tactic(auto, using(crate::proofs::TreeOfFacts::typed_facts))]
+#[tactic(auto, using(law_typing::proofs::TreeOfFacts::typed_facts))]
 pub fn typed(alloc: Global, sig: &Sig, term: &RawTerm) -> Result<Option<Tree>, NoMemory>
     ensures { IfOk result (λ found. IsTyped sig.now term.now found) }
 {
@@ -51,7 +51,7 @@ fn names_symbol(sig: &Sig, name: &Text, sym: SymId) -> bool
 }
 
 /// The number of a sort by its name.
-#[tactic(auto, using(crate::proofs::NumberFacts::find_facts))]
+#[tactic(auto, using(law_typing::proofs::NumberFacts::find_facts))]
 fn find_sort(sig: &Sig, name: &Text) -> Option<u32>
     ensures { result ≡ number_of sig.now.sort_names name.now }
 {
@@ -72,7 +72,7 @@ fn name_count(sig: &Sig) -> u32
 }
 
 /// The number of a symbol by its name.
-#[tactic(auto, using(crate::proofs::NumberFacts::find_facts))]
+#[tactic(auto, using(law_typing::proofs::NumberFacts::find_facts))]
 fn find_symbol(sig: &Sig, name: &Text) -> Option<u32>
     ensures { result ≡ number_of sig.now.symbol_names name.now }
 {
@@ -108,7 +108,7 @@ fn tree_over(sig: &Sig, head: &RawHead, args: Seq<Tree>) -> Option<Tree>
 }
 
 /// The term with each name replaced by its number.
-#[tactic(auto, using(crate::proofs::TreeOfFacts::tree_facts))]
+#[tactic(auto, using(law_typing::proofs::TreeOfFacts::tree_facts))]
 fn tree_of(alloc: Global, sig: &Sig, term: &RawTerm) -> Result<Option<Tree>, NoMemory>
     ensures { IfOk result (λ found. found ≡ tree_of sig.now term.now) }
 {

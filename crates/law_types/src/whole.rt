@@ -1,22 +1,11 @@
 ghost use Rattle.std.specs.Prelude.{◌≡◌, length, map, IfOk};
 ghost use Rattle.std.specs.Option.{option_copied};
-ghost use Rattle.law_types.specs.Declarations.{sort_id, sort_in, symbol_in, declared_in, constructor, function, sort_names, symbol_names, symbols_from, gathered, vars_in, vars_of, width_in, width_of, whole};
+ghost use Rattle.law_typing.specs.Declarations.{sort_id, sort_in, symbol_in, declared_in, constructor, function, sort_names, symbol_names, symbols_from, gathered, vars_in, vars_of, width_in, width_of, whole};
 
-use crate::names::Names;
-use law_read::RawLine;
+use law_lines::RawLine;
 use law_sig::{Con, Fun, NoMemory, Seq, SortId, Sym, Text};
+use law_typing::{Names, Whole};
 use std::alloc::Global;
-
-/// What all lines of a text declare, whatever else may be wrong with them: sorts and symbols with their names, functions
-/// without their bodies, and the numbers of variables and the widths of the sorts.
-#[derive(Drop)]
-pub(crate) struct Whole {
-    pub(crate) sorts: Names,
-    pub(crate) names: Names,
-    pub(crate) symbols: Seq<Sym>,
-    pub(crate) vars: Seq<u64>,
-    pub(crate) widths: Seq<u64>,
-}
 
 /// What these lines declare.
 pub(crate) fn read_whole(alloc: Global, lines: &[RawLine]) -> Result<Whole, NoMemory>

@@ -4,7 +4,7 @@ use Rattle.law_sig.specs.Lists.{In, Each}
 use Rattle.law_sig.specs.Lists.In.{here, there}
 use Rattle.law_sig.specs.Trees.{joined}
 use Rattle.law_sig.specs.declared.tree.Tree.{Tree}
-use Rattle.law_laws.proofs.ListFacts.{in_none, in_split, in_left, in_right, of_each}
+use Rattle.law_laws.proofs.ListFacts.{in_none, in_split, in_left, in_right, of_each, each_left, each_right}
 use Rattle.law_laws.proofs.BodyFacts.{some_is, none_is}
 use Rattle.law_valid.specs.declared.certificate.Branch.{Branch}
 use Rattle.law_valid.specs.declared.certificate.Branch.TheOpen.{Branch-F}
@@ -13,7 +13,6 @@ use Rattle.law_valid.specs.declared.certificate.Branch.TheVariants.{Leaf, Split,
 use Rattle.law_valid.specs.declared.certificate.Branch.TheViews.{roll-Branch}
 use Rattle.law_valid.specs.declared.certificate.Branch.TheFolds.{map-Branch, fold-roll-Branch, ind-Branch}
 use Rattle.law_valid.specs.Splits.{Cut, Parted, parted_step, parted, leaves_of, cuts_of, Tells}
-use Rattle.law_valid.proofs.StatedFacts.{each_right}
 
 -- Lists
 
@@ -26,10 +25,6 @@ places_decided (suc i) (suc j) = next (places_decided i j)
     next : (i ≡ j) ⊎ (i ≢ j) → (suc i ≡ suc j) ⊎ (suc i ≢ suc j)
     next (inl e) = inl (ap suc e)
     next (inr d) = inr (λ e. d (omega arith))
-
-pub each_left : {A : Type 0} (P : A → Type 0) (xs ys : List A) → Each P (xs ++ ys) → Each P xs
-each_left P [] ys h = tt
-each_left P (x ∷ xs) ys h = (h.0, each_left P xs ys h.1)
 
 -- an item of each of the lists
 pub each_joined : {A B : Type 0} (P : B → Type 0) (f : A → List B) (xs : List A) (i : ℕ) (x : A) → slice_get xs i ≡ Some x → Each P (joined (map f xs)) → Each P (f x)

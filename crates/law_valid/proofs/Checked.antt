@@ -1,13 +1,14 @@
 -- Trees that pass one by one are those of a valid certificate, and so nothing is found wrong exactly where it is valid.
-use Rattle.std.proofs.Common.{◌≡◌, ℕ, zero, suc, ◌<◌, ◌⊎◌, inl, inr, List, [], ◌∷◌, ◌++◌, map, None, sym, refl, ap, ◌∙◌, subst, arith, append_assoc, append-nil}
+use Rattle.std.proofs.Common.{◌≡◌, ℕ, zero, suc, ◌<◌, ◌⊎◌, inl, inr, List, [], ◌∷◌, ◌++◌, map, None, sym, refl, ap, ◌∙◌, subst, subst₂, arith, append_assoc, append-nil}
 use Rattle.law_sig.specs.Lists.{In, Each, Rising}
 use Rattle.law_sig.specs.Lists.In.{here}
 use Rattle.law_sig.specs.Trees.{joined}
+use Rattle.law_sig.specs.Schemas.{AreExactly, IsConsidered, IsInstance}
 use Rattle.law_sig.specs.Tests.{Pools}
 use Rattle.law_sig.specs.declared.tree.SortId.{SortId}
 use Rattle.law_sig.specs.declared.tree.Tree.{Tree}
 use Rattle.law_sig.specs.declared.parts.SigParts.{SigParts}
-use Rattle.law_laws.proofs.ListFacts.{in_right, each_of, of_each}
+use Rattle.law_laws.proofs.ListFacts.{in_right, each_of, of_each, each_right, each_both, each_left}
 use Rattle.law_laws.proofs.Descents.{weighs_something}
 use Rattle.law_valid.specs.declared.certificate.Branch.{Branch}
 use Rattle.law_valid.specs.declared.certificate.Branch.TheOpen as b
@@ -15,19 +16,21 @@ use Rattle.law_valid.specs.declared.certificate.Branch.TheVariants.{Leaf, Split,
 use Rattle.law_valid.specs.declared.certificate.Branch.TheFolds.{fold-roll-Branch}
 use Rattle.law_valid.specs.declared.certificate.Class.{Class}
 use Rattle.law_valid.specs.declared.certificate.Entry.{Entry}
+use Rattle.law_valid.specs.declared.certificate.Entry.TheVariants as e
 use Rattle.law_valid.specs.declared.certificate.SortTree.{SortTree}
 use Rattle.law_valid.specs.Stated.{stated, spread_at, live_at}
 use Rattle.law_valid.specs.Splits.{leaves_of, cuts_of}
 use Rattle.law_valid.specs.Trees.{HasSpread, IsEarlierSort, sorts_in, IsTree, AreTrees}
-use Rattle.law_valid.specs.Valid.{IsValid}
-use Rattle.law_valid.specs.Judged.{Judging, Whole, whole_step, whole, of_term_cut, of_schema_cut, Entries, entry_after, InTrees, Judged}
+use Rattle.law_valid.specs.Valid.{IsEntry, IsValid}
+use Rattle.law_valid.specs.Order.{Decision, spread, killed, live, moved, HaveInstances}
+use Rattle.law_valid.specs.Judged.{decision_at, Judging, Whole, whole_step, whole, of_term_cut, of_schema_cut, Entries, entry_after, InTrees, Judged}
 use Rattle.law_valid.specs.declared.rule.Answer.TheVariants.{Yes}
-use Rattle.law_valid.proofs.StatedFacts.{each_both, each_right}
-use Rattle.law_valid.proofs.Apart.{each_left, branch_induct, map_twice, leaves-Leaf, leaves-Split, cuts-Leaf, cuts-Split, root_cut}
-use Rattle.law_valid.proofs.Walks.{items_of, added_by, AddThemselves, Walk, walk_rising, walk_each, walk_finds, exact_next, exact_spent}
-use Rattle.law_valid.proofs.Passing.{if_yes, background_yes, yes_background, entries_yes, yes_entries, JudgingTells, TreesPass, trees_yes, yes_trees}
-use Rattle.law_valid.proofs.Walked.{schemas_exact, first_bare, each_entry}
-use Rattle.law_valid.proofs.Passed.{passed}
+use Rattle.law_valid.proofs.Apart.{branch_induct, map_twice, leaves-Leaf, leaves-Split, cuts-Leaf, cuts-Split, root_cut}
+use Rattle.law_laws.proofs.Walks.{items_of, added_by, AddThemselves, Walk, walk_rising, walk_each, walk_finds, exact_next, exact_spent}
+use Rattle.law_valid.proofs.Passing.{if_yes, background_yes, yes_background, Owes, AllOwe, entries_yes, yes_entries, JudgingTells, TreesPass, trees_yes, yes_trees}
+use Rattle.law_valid.proofs.Decisions.{spread_decided, schema_decided, live_decided, first_decided, decisions_whole}
+use Rattle.law_valid.proofs.Walked.{in_order_whole}
+use Rattle.law_valid.proofs.Passed.{whole_in_order}
 
 -- Lists
 
@@ -244,6 +247,45 @@ module _ (parts : SigParts) (pools : Pools) (all : List Entry) where
   pub are_trees : (trees : List SortTree) → AreTrees parts pools all trees → TreesPass parts pools all [] trees
   are_trees trees are = trees_pass trees are [] trees refl are.each
 
+-- Entries
+
+module _ (parts : SigParts) (pools : Pools) (all : List Entry) where
+  -- what an entry owes, with the terms behind it, is all that is asked of it
+  of_entry : (before : List Entry) (x : Entry) (xs : List Entry) → Owes parts pools before x → HaveInstances parts (stated live_at all) (decision_at x ++ stated decision_at xs)
+      → IsEntry parts pools all before x xs
+  of_entry before (e.Law n q) xs owed h = (owed.0.0, record { sort = owed.0.1.sort; left = owed.0.1.left; right = owed.0.1.right; agree = owed.1 })
+  of_entry before (e.Lemma n q steps) xs owed h = owed
+  of_entry before (e.Spread c) xs owed h = subst (AreExactly parts (IsInstance parts (stated live_at all) c)) (first_decided xs) h.0
+  of_entry before (e.Killed q steps) xs owed h = (owed.0, owed.1, sym (first_decided xs) ∙ h.0)
+  of_entry before (e.Live t) xs owed h = tt
+  of_entry before (e.Moved q steps) xs owed h = owed
+
+  to_owed : (before : List Entry) (x : Entry) (xs : List Entry) → IsEntry parts pools all before x xs → Owes parts pools before x
+  to_owed before (e.Law n q) xs is = ((is.0, record { sort = is.1.sort; left = is.1.left; right = is.1.right }), is.1.agree)
+  to_owed before (e.Lemma n q steps) xs is = is
+  to_owed before (e.Spread c) xs is = tt
+  to_owed before (e.Killed q steps) xs is = (is.0, is.1)
+  to_owed before (e.Live t) xs is = tt
+  to_owed before (e.Moved q steps) xs is = is
+
+  behind : (ds ns : List Decision) → HaveInstances parts (stated live_at all) (ds ++ ns) → HaveInstances parts (stated live_at all) ns
+  behind [] ns h = h
+  behind (spread c ∷ ds) ns h = behind ds ns h.1
+  behind (killed c ∷ ds) ns h = behind ds ns h.1
+  behind (live t ∷ ds) ns h = behind ds ns h
+  behind (moved t ∷ ds) ns h = behind ds ns h
+
+  entry_at : (before front : List Entry) (x : Entry) (back : List Entry) → AllOwe parts pools before (front ++ x ∷ back)
+      → HaveInstances parts (stated live_at all) (stated decision_at (front ++ x ∷ back)) → IsEntry parts pools all (before ++ front) x back
+  entry_at before [] x back owed h = subst (λ l. IsEntry parts pools all l x back) (sym (append-nil before)) (of_entry before x back owed.0 h)
+  entry_at before (y ∷ front) x back owed h = subst (λ l. IsEntry parts pools all l x back) (append_assoc before (y ∷ []) front)
+      (entry_at (before ++ y ∷ []) front x back owed.1 (behind (decision_at y) (stated decision_at (front ++ x ∷ back)) h))
+
+  all_owed : ((before : List Entry) (x : Entry) (after : List Entry) → all ≡ before ++ x ∷ after → IsEntry parts pools all before x after)
+      → (before xs : List Entry) → all ≡ before ++ xs → AllOwe parts pools before xs
+  all_owed each before [] split = tt
+  all_owed each before (x ∷ xs) split = (to_owed before x xs (each before x xs split), all_owed each (before ++ x ∷ []) xs (split ∙ sym (append_assoc before (x ∷ []) xs)))
+
 -- The whole
 
 pub yes_valid : (parts : SigParts) (pools : Pools) (entries : List Entry) (trees : List SortTree) → Judged parts pools entries trees Yes → IsValid parts pools entries trees
@@ -252,16 +294,18 @@ yes_valid parts pools entries trees h =
     let given = if_yes limits.1 in
     let true_there = background_yes parts pools parts.settings.background
     (Entries parts pools (InTrees parts pools entries (entry_after entries) [] trees) [] None entries) given.1 in
-    let walked = entries_yes parts pools (InTrees parts pools entries (entry_after entries) [] trees) [] None entries true_there.1 in
-    let weighs = weighs_something parts limits.0.well_formed in
+    let passed = entries_yes parts pools (InTrees parts pools entries (entry_after entries) [] trees) [] None entries true_there.1 in
+    let whole = in_order_whole parts (weighs_something parts limits.0.well_formed) (stated decision_at entries) passed.0.goes in
+    let instances = subst (λ lives. HaveInstances parts lives (stated decision_at entries)) (live_decided entries) whole.instances in
     record {
       limits = limits.0;
       pools_are = given.0;
       background = true_there.0;
-      schemas = schemas_exact parts pools weighs entries walked.0;
-      first = first_bare parts pools weighs entries walked.0;
-      each = each_entry parts pools weighs entries walked.0;
-      trees_are = trees_are parts pools entries trees (trees_yes parts pools entries (entry_after entries) [] trees walked.1);
+      schemas = subst₂ (λ spreads. AreExactly parts (IsConsidered parts spreads)) (spread_decided entries) (schema_decided entries) whole.schemas;
+      first = sym (first_decided entries) ∙ whole.first;
+      each = λ before x after split. entry_at parts pools entries [] before x after (subst (AllOwe parts pools []) split passed.0.owed)
+          (subst (λ l. HaveInstances parts (stated live_at entries) (stated decision_at l)) split instances);
+      trees_are = trees_are parts pools entries trees (trees_yes parts pools entries (entry_after entries) [] trees passed.1);
     }
 
 pub valid_yes : (parts : SigParts) (pools : Pools) (entries : List Entry) (trees : List SortTree) → IsValid parts pools entries trees → Judged parts pools entries trees Yes
@@ -272,6 +316,9 @@ valid_yes parts pools entries trees valid = inl (
     yes_background parts pools parts.settings.background (Entries parts pools (InTrees parts pools entries (entry_after entries) [] trees) [] None entries) valid.background
         (yes_entries parts pools (InTrees parts pools entries (entry_after entries) [] trees)
         (yes_trees parts pools entries (entry_after entries) [] trees (are_trees parts pools entries trees valid.trees_are)) [] None entries
-        (passed parts pools entries trees valid)),
+        (record {
+          goes = whole_in_order parts (weighs_something parts valid.limits.well_formed) (stated decision_at entries) (decisions_whole parts pools entries valid.each valid.schemas valid.first);
+          owed = all_owed parts pools entries valid.each [] entries refl;
+        })),
   ),
 )

@@ -1,6 +1,6 @@
 -- A valid certificate covers.
 use Rattle.std.proofs.Common.{◌≡◌, ◌≢◌, ℕ, ◌<◌, ◌⊎◌, inl, inr, true≢false, Option, Some, None, IsSome, List, [], ◌∷◌, option_and_then, sym, refl, ap, ◌∙◌, subst}
-use Rattle.law_sig.specs.Lists.{In, Each}
+use Rattle.law_sig.specs.Lists.{In, Each, numbered}
 use Rattle.law_sig.specs.Trees.{schema_of}
 use Rattle.law_sig.specs.Signature.{sort_of}
 use Rattle.law_sig.specs.Derive.{Derivable}
@@ -11,7 +11,7 @@ use Rattle.law_sig.specs.declared.tree.SortId.{SortId}
 use Rattle.law_sig.specs.declared.tree.Tree.{Tree}
 use Rattle.law_sig.specs.declared.parts.Equation.{Equation}
 use Rattle.law_sig.specs.declared.parts.SigParts.{SigParts}
-use Rattle.law_laws.proofs.ListFacts.{in_none, in_map, of_each, each_of, each_map, in_rest}
+use Rattle.law_laws.proofs.ListFacts.{in_none, in_map, of_each, each_of, each_map, in_rest, in_numbered}
 use Rattle.law_laws.proofs.BodyFacts.{some_is}
 use Rattle.law_laws.proofs.Sorts.{schema_sort}
 use Rattle.law_laws.proofs.Renaming.{bounded_vars, flat_value}
@@ -19,11 +19,11 @@ use Rattle.law_valid.specs.declared.certificate.Class.{Class}
 use Rattle.law_valid.specs.declared.certificate.Entry.{Entry}
 use Rattle.law_valid.specs.declared.certificate.Entry.TheVariants as e
 use Rattle.law_valid.specs.declared.certificate.SortTree.{SortTree}
-use Rattle.law_valid.specs.Stated.{stated, spread_at, live_at, law_at, numbered}
+use Rattle.law_valid.specs.Stated.{stated, spread_at, live_at, law_at}
 use Rattle.law_valid.specs.Splits.{Cut, leaves_of, cuts_of, Tells}
 use Rattle.law_valid.specs.Trees.{value_of, IsTest, IsFlatTest, schemas_of, HasTerms, IsTree, sorts_in}
 use Rattle.law_valid.specs.Valid.{IsEntry, IsValid}
-use Rattle.law_valid.proofs.StatedFacts.{in_numbered, stated_by}
+use Rattle.law_valid.proofs.StatedFacts.{stated_by}
 use Rattle.law_valid.proofs.Derive.{base_of}
 use Rattle.law_valid.proofs.Reach.{live_instance, Reached, reached}
 use Rattle.law_valid.proofs.Apart.{AreAtOneLeaf, AreTold, decided, numbers_of, as_numbers, alone, numbers_alone, cut_alone}

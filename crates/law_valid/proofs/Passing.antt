@@ -1,24 +1,27 @@
 -- Where the answer is Yes, each condition holds, and the other way round.
 use Rattle.std.proofs.Common.{◌≡◌, ℕ, zero, suc, ◌+◌, ◌<◌, ◌≤◌, ◌⊎◌, inl, inr, Option, Some, None, IsSome, true≢false, List, [], ◌∷◌, ◌++◌, sym, refl, ap, ◌∙◌, subst, arith, option_and_then}
-use Rattle.law_sig.specs.Lists.{Each}
-use Rattle.law_sig.specs.Trees.{schema_of, joined}
+use Rattle.law_sig.specs.Lists.{Each, numbered}
+use Rattle.law_sig.specs.Trees.{joined}
 use Rattle.law_sig.specs.Tests.{Pools, test_count, val, Agrees}
 use Rattle.law_sig.specs.declared.tree.SortId.{SortId}
 use Rattle.law_sig.specs.declared.tree.Tree.{Tree}
 use Rattle.law_sig.specs.declared.parts.Equation.{Equation}
 use Rattle.law_sig.specs.declared.parts.SigParts.{SigParts}
 use Rattle.law_laws.proofs.BodyFacts.{some_is}
+use Rattle.law_valid.proofs.Going.{expected_first, go_on, go_then}
+use Rattle.law_valid.proofs.Decisions.{progress_after}
 use Rattle.law_valid.specs.declared.certificate.Entry.{Entry}
 use Rattle.law_valid.specs.declared.certificate.Entry.TheVariants as e
 use Rattle.law_valid.specs.declared.certificate.SortTree.{SortTree}
 use Rattle.law_valid.specs.declared.rule.Rule.{Rule}
 use Rattle.law_valid.specs.declared.rule.Rule.TheVariants as r
-use Rattle.law_valid.specs.Stated.{stated, live_at, numbered}
+use Rattle.law_valid.specs.Stated.{stated, live_at}
 use Rattle.law_valid.specs.Splits.{leaves_of, AreApart, Tells}
 use Rattle.law_valid.specs.Trees.{value_of, HasSchemas, HasTerms, HasSpread, IsEarlierSort}
 use Rattle.law_valid.specs.Valid.{IsNextNumber, IsLemma, IsKilled, IsMoved}
-use Rattle.law_valid.specs.Expected.{IsFirstAbove, IsSpent}
-use Rattle.law_valid.specs.Judged.{If, Valued, Tests, AtTests, Background, Block, IsBlockSpent, IsNextTerm, IsNextSchema, AreSchemasSpent, HasSides, Entries, entry_after, with_term, Judging, all_cuts, ItemValued, ItemsValued, CutsTell, InTrees}
+use Rattle.law_sig.specs.Expected.{IsFirstAbove, IsSpent}
+use Rattle.law_valid.specs.Order.{Block, IsBlockSpent, IsNextTerm, AreExpected, GoInOrder}
+use Rattle.law_valid.specs.Judged.{If, Valued, Tests, AtTests, Background, decision_at, progress, block_after, HasSides, OfEntry, Entries, entry_after, Judging, all_cuts, ItemValued, ItemsValued, CutsTell, InTrees}
 use Rattle.law_valid.specs.declared.rule.Answer.{Answer}
 use Rattle.law_valid.specs.declared.rule.Answer.TheVariants.{Yes, No, Over}
 
@@ -105,104 +108,99 @@ module _ (parts : SigParts) (pools : Pools) where
 
   -- Entries
 
-  -- the conditions of one entry
-  abbrev pub Passes : List Entry → Option Block → Entry → Type 0
-  Passes before block (e.Law number q) = (IsNextNumber parts before number × HasSides parts q) × Agrees parts pools q.left q.right
-  Passes before block (e.Lemma number q steps) = IsNextNumber parts before number × IsLemma parts before q steps
-  Passes before block (e.Spread c) = IsBlockSpent parts (stated live_at before) block × IsNextSchema parts before c
-  Passes before block (e.Killed q steps) = IsBlockSpent parts (stated live_at before) block × IsNextSchema parts before (schema_of q.left)
-      × IsKilled parts before q steps × Agrees parts pools q.left q.right
-  Passes before block (e.Live t) = (IsBlockSpent parts (stated live_at before) block → ⊥) × IsNextTerm parts (stated live_at before) block t
-  Passes before block (e.Moved q steps) = (IsBlockSpent parts (stated live_at before) block → ⊥) × IsNextTerm parts (stated live_at before) block q.left
-      × IsMoved parts before q steps × Agrees parts pools q.left q.right
+  -- what an entry owes, apart from the order
+  abbrev pub Owes : List Entry → Entry → Type 0
+  Owes before (e.Law number q) = (IsNextNumber parts before number × HasSides parts q) × Agrees parts pools q.left q.right
+  Owes before (e.Lemma number q steps) = IsNextNumber parts before number × IsLemma parts before q steps
+  Owes before (e.Spread c) = Unit {0}
+  Owes before (e.Killed q steps) = IsKilled parts before q steps × Agrees parts pools q.left q.right
+  Owes before (e.Live t) = Unit {0}
+  Owes before (e.Moved q steps) = IsMoved parts before q steps × Agrees parts pools q.left q.right
 
-  abbrev pub block_after : Option Block → Entry → Option Block
-  block_after block (e.Law number q) = block
-  block_after block (e.Lemma number q steps) = block
-  block_after block (e.Spread c) = Some (record { schema = c; terms = [] })
-  block_after block (e.Killed q steps) = None
-  block_after block (e.Live t) = with_term block t
-  block_after block (e.Moved q steps) = with_term block q.left
+  abbrev pub AllOwe : List Entry → List Entry → Type 0
+  AllOwe before [] = Unit {0}
+  AllOwe before (x ∷ xs) = Owes before x × AllOwe (before ++ x ∷ []) xs
 
-  -- those of all entries, and of their end
-  abbrev pub AllPass : List Entry → Option Block → List Entry → Type 0
-  AllPass before block [] = IsBlockSpent parts (stated live_at before) block × AreSchemasSpent parts before
-  AllPass before block (x ∷ xs) = Passes before block x × AllPass (before ++ x ∷ []) (block_after block x) xs
+  -- an entry is expected, and has what it owes
+  pub record Passes (before : List Entry) (block : Option Block) (x : Entry) : Type 0 where
+    pub expected : AreExpected (progress parts before block) (decision_at x)
+    pub owed : Owes before x
+
+  -- so do all entries, and nothing is expected where they end
+  pub record AllPass (before : List Entry) (block : Option Block) (xs : List Entry) : Type 0 where
+    pub goes : GoInOrder (progress parts before block) (stated decision_at xs)
+    pub owed : AllOwe before xs
+
+  entry_yes : (before : List Entry) (block : Option Block) (x : Entry) (rest : Answer → Type 0) → OfEntry parts pools before block x rest Yes → Passes before block x × rest Yes
+  entry_yes before block (e.Law n q) rest h =
+      let p = if_yes h in
+      let m = at_tests_yes r.V3 (entry_after before) q rest p.1 in
+      (record { expected = tt; owed = (p.0, m.0) }, m.1)
+  entry_yes before block (e.Lemma n q steps) rest h = let p = if_yes h in (record { expected = tt; owed = p.0 }, p.1)
+  entry_yes before block (e.Spread c) rest h =
+      let p = if_yes h in
+      let m = if_yes p.1 in
+      (record { expected = ((p.0, m.0), tt); owed = tt }, m.1)
+  entry_yes before block (e.Killed q steps) rest h =
+      let p = if_yes h in
+      let m = if_yes p.1 in
+      let k = if_yes m.1 in
+      let a = at_tests_yes r.V6 (entry_after before) q rest k.1 in
+      (record { expected = ((p.0, m.0), tt); owed = (k.0, a.0) }, a.1)
+  entry_yes before block (e.Live t) rest h =
+      let p = if_yes h in
+      let m = if_yes p.1 in
+      (record { expected = (m.0, tt); owed = tt }, m.1)
+  entry_yes before block (e.Moved q steps) rest h =
+      let p = if_yes h in
+      let m = if_yes p.1 in
+      let k = if_yes m.1 in
+      let a = at_tests_yes r.V7 (entry_after before) q rest k.1 in
+      (record { expected = (m.0, tt); owed = (k.0, a.0) }, a.1)
+
+  -- where an instance is expected, not none is
+  not_spent : (lives : List Tree) (block : Option Block) (t : Tree) → IsNextTerm parts lives block t → IsBlockSpent parts lives block → ⊥
+  not_spent lives None t next spent = next
+  not_spent lives (Some block) t next spent = spent t next.is next.above
+
+  yes_entry : (before : List Entry) (block : Option Block) (x : Entry) (rest : Answer → Type 0) → Passes before block x → rest Yes → OfEntry parts pools before block x rest Yes
+  yes_entry before block (e.Law n q) rest h later = inl (h.owed.0, yes_at_tests r.V3 (entry_after before) q rest h.owed.1 later)
+  yes_entry before block (e.Lemma n q steps) rest h later = inl (h.owed, later)
+  yes_entry before block (e.Spread c) rest h later = inl (h.expected.0.0, inl (h.expected.0.1, later))
+  yes_entry before block (e.Killed q steps) rest h later =
+      inl (h.expected.0.0, inl (h.expected.0.1, inl (h.owed.0, yes_at_tests r.V6 (entry_after before) q rest h.owed.1 later)))
+  yes_entry before block (e.Live t) rest h later = inl (not_spent (stated live_at before) block t h.expected.0, inl (h.expected.0, later))
+  yes_entry before block (e.Moved q steps) rest h later = inl (
+    not_spent (stated live_at before) block q.left h.expected.0,
+    inl (h.expected.0, inl (h.owed.0, yes_at_tests r.V7 (entry_after before) q rest h.owed.1 later)),
+  )
 
   pub entries_yes : (close : Answer → Type 0) (before : List Entry) (block : Option Block) (xs : List Entry) → Entries parts pools close before block xs Yes
       → AllPass before block xs × close Yes
-  entries_yes close before block [] h = let p = if_yes h in let m = if_yes p.1 in ((p.0, m.0), m.1)
-  entries_yes close before block (e.Law n q ∷ xs) h =
-      let p = if_yes h in
-      let m = at_tests_yes r.V3 (entry_after before) q (Entries parts pools close (before ++ e.Law n q ∷ []) block xs) p.1 in
-      let l = entries_yes close (before ++ e.Law n q ∷ []) block xs m.1 in
-      (((p.0, m.0), l.0), l.1)
-  entries_yes close before block (e.Lemma n q steps ∷ xs) h =
-      let p = if_yes h in
-      let l = entries_yes close (before ++ e.Lemma n q steps ∷ []) block xs p.1 in
-      ((p.0, l.0), l.1)
-  entries_yes close before block (e.Spread c ∷ xs) h =
+  entries_yes close before block [] h =
       let p = if_yes h in
       let m = if_yes p.1 in
-      let l = entries_yes close (before ++ e.Spread c ∷ []) (Some (record { schema = c; terms = [] })) xs m.1 in
-      (((p.0, m.0), l.0), l.1)
-  entries_yes close before block (e.Killed q steps ∷ xs) h =
-      let p = if_yes h in
-      let m = if_yes p.1 in
-      let k = if_yes m.1 in
-      let a = at_tests_yes r.V6 (entry_after before) q (Entries parts pools close (before ++ e.Killed q steps ∷ []) None xs) k.1 in
-      let l = entries_yes close (before ++ e.Killed q steps ∷ []) None xs a.1 in
-      (((p.0, m.0, k.0, a.0), l.0), l.1)
-  entries_yes close before block (e.Live t ∷ xs) h =
-      let p = if_yes h in
-      let m = if_yes p.1 in
-      let l = entries_yes close (before ++ e.Live t ∷ []) (with_term block t) xs m.1 in
-      (((p.0, m.0), l.0), l.1)
-  entries_yes close before block (e.Moved q steps ∷ xs) h =
-      let p = if_yes h in
-      let m = if_yes p.1 in
-      let k = if_yes m.1 in
-      let a = at_tests_yes r.V7 (entry_after before) q (Entries parts pools close (before ++ e.Moved q steps ∷ []) (with_term block q.left) xs) k.1 in
-      let l = entries_yes close (before ++ e.Moved q steps ∷ []) (with_term block q.left) xs a.1 in
-      (((p.0, m.0, k.0, a.0), l.0), l.1)
+      (record { goes = record { each = tt; ends = (p.0, m.0) }; owed = tt }, m.1)
+  entries_yes close before block (x ∷ xs) h =
+      let p = entry_yes before block x (Entries parts pools close (before ++ x ∷ []) (block_after block x) xs) h in
+      let m = entries_yes close (before ++ x ∷ []) (block_after block x) xs p.1 in (
+        record {
+          goes = go_on (progress parts before block) (decision_at x) (stated decision_at xs) p.0.expected
+              (subst (λ at. GoInOrder at (stated decision_at xs)) (sym (progress_after parts before block x)) m.0.goes);
+          owed = (p.0.owed, m.0.owed);
+        },
+        m.1,
+      )
 
   pub yes_entries : (close : Answer → Type 0) → close Yes → (before : List Entry) (block : Option Block) (xs : List Entry) → AllPass before block xs
       → Entries parts pools close before block xs Yes
-  yes_entries close end before block [] h = inl (h.0, inl (h.1, end))
-  yes_entries close end before block (e.Law n q ∷ xs) h = inl (
-    h.0.0,
-    yes_at_tests r.V3 (entry_after before) q (Entries parts pools close (before ++ e.Law n q ∷ []) block xs) h.0.1
-        (yes_entries close end (before ++ e.Law n q ∷ []) block xs h.1),
-  )
-  yes_entries close end before block (e.Lemma n q steps ∷ xs) h = inl (h.0, yes_entries close end (before ++ e.Lemma n q steps ∷ []) block xs h.1)
-  yes_entries close end before block (e.Spread c ∷ xs) h =
-      inl (h.0.0, inl (h.0.1, yes_entries close end (before ++ e.Spread c ∷ []) (Some (record { schema = c; terms = [] })) xs h.1))
-  yes_entries close end before block (e.Killed q steps ∷ xs) h =
-      inl (
-        h.0.0,
-        inl (
-          h.0.1,
-          inl (
-            h.0.2,
-            yes_at_tests r.V6 (entry_after before) q (Entries parts pools close (before ++ e.Killed q steps ∷ []) None xs) h.0.3
-                (yes_entries close end (before ++ e.Killed q steps ∷ []) None xs h.1),
-          ),
-        ),
-      )
-  yes_entries close end before block (e.Live t ∷ xs) h =
-      inl (h.0.0, inl (h.0.1, yes_entries close end (before ++ e.Live t ∷ []) (with_term block t) xs h.1))
-  yes_entries close end before block (e.Moved q steps ∷ xs) h =
-      inl (
-        h.0.0,
-        inl (
-          h.0.1,
-          inl (
-            h.0.2,
-            yes_at_tests r.V7 (entry_after before) q (Entries parts pools close (before ++ e.Moved q steps ∷ []) (with_term block q.left) xs) h.0.3
-                (yes_entries close end (before ++ e.Moved q steps ∷ []) (with_term block q.left) xs h.1),
-          ),
-        ),
-      )
+  yes_entries close end before block [] h = inl (h.goes.ends.0, inl (h.goes.ends.1, end))
+  yes_entries close end before block (x ∷ xs) h = yes_entry before block x (Entries parts pools close (before ++ x ∷ []) (block_after block x) xs)
+      (record { expected = expected_first (progress parts before block) (decision_at x) (stated decision_at xs) h.goes.each; owed = h.owed.0 })
+      (yes_entries close end (before ++ x ∷ []) (block_after block x) xs (record {
+        goes = subst (λ at. GoInOrder at (stated decision_at xs)) (progress_after parts before block x) (go_then (progress parts before block) (decision_at x) (stated decision_at xs) h.goes);
+        owed = h.owed.1;
+      }))
 
   -- Trees
 

@@ -18,12 +18,12 @@ use Rattle.law_sig.specs.declared.parts.Equation.{Equation}
 use Rattle.law_sig.specs.declared.parts.SigParts.{SigParts}
 use Rattle.law_laws.specs.Orders.{WeighsSomething}
 use Rattle.law_laws.specs.Renaming.{HasWidth, renamed}
-use Rattle.law_laws.specs.Filling.{filling}
+use Rattle.law_sig.specs.General.{filling}
 use Rattle.law_laws.proofs.TreeFacts.{tree_induct, tree_cases, schema-Var, schema-App, substituted-Var, substituted-App}
 use Rattle.law_laws.proofs.ListFacts.{in_none, in_left, in_right, in_rest, of_each}
 use Rattle.law_laws.proofs.BodyFacts.{some_is}
 use Rattle.law_laws.proofs.Sorts.{schema_sort}
-use Rattle.law_laws.proofs.Orders.{lighter_before, before_weight, schema_weight, IsUpto, upto_then, before_chain, AreUpto, all_upto}
+use Rattle.law_laws.proofs.Orders.{lighter_before, before_weight, schema_weight, IsUpto, upto_then, before_chain, AreUpto, all_upto, schema_before}
 use Rattle.law_laws.proofs.Descents.{weighs_something, explore_induct}
 use Rattle.law_laws.proofs.Agreement.{same_itself, same_chain, AreSame, same_app_args}
 use Rattle.law_laws.proofs.Derivation.{derivable_instance, AreDerivable, derivable_args}
@@ -33,14 +33,15 @@ use Rattle.law_laws.proofs.Universe.{AreInU, IsVarOf, in_var, in_app, app_in, ar
 use Rattle.law_valid.specs.declared.certificate.Entry.{Entry}
 use Rattle.law_valid.specs.declared.certificate.Entry.TheVariants as e
 use Rattle.law_valid.specs.declared.certificate.SortTree.{SortTree}
-use Rattle.law_valid.specs.declared.certificate.Step.{Step}
+use Rattle.law_sig.specs.declared.chain.Step.{Step}
 use Rattle.law_valid.specs.Stated.{stated, schema_at, spread_at, live_at, terms_after}
-use Rattle.law_valid.specs.Schemas.{IsConsidered, IsInstance, arguments_of}
-use Rattle.law_valid.specs.Schemas.IsConsidered.{variable, application}
+use Rattle.law_sig.specs.Schemas.{IsConsidered, IsInstance, arguments_of}
+use Rattle.law_sig.specs.Schemas.IsConsidered.{variable, application}
 use Rattle.law_valid.specs.Valid.{IsEntry, IsKilled, IsValid}
 use Rattle.law_valid.proofs.StatedFacts.{stated_by, stated_parts}
 use Rattle.law_valid.proofs.Derive.{base_of, derivable_before}
-use Rattle.law_valid.proofs.Blocks.{schema_before, term_at, live_term, after_term, blocks_of, AreOrdered, all_ordered, earlier_before}
+use Rattle.law_valid.proofs.Blocks.{AreOrdered}
+use Rattle.law_valid.proofs.Decisions.{term_at, after_term, live_term, valid_ordered, earlier_before}
 
 -- a renamed term has the same schema
 pub renamed_schema : (r : SortId → ℕ → ℕ) (t : Tree) → schema_of (substituted (renamed r) t) ≡ schema_of t
@@ -63,7 +64,7 @@ module _ (parts : SigParts) (pools : Pools) (all : List Entry) (trees : List Sor
   wide = has_width parts valid.limits.well_formed
 
   pub in_order : AreOrdered parts (stated live_at all) (stated spread_at all) (stated term_at all)
-  in_order = all_ordered parts (stated live_at all) all (blocks_of parts pools all valid.each [] all refl) valid.schemas.rising valid.first
+  in_order = valid_ordered parts pools all trees valid
 
   -- a live term is an instance of a spread schema
   pub live_instance : (u : Tree) → In u (stated live_at all) → (c : Tree) × In c (stated spread_at all) × IsInstance parts (stated live_at all) c u

@@ -11,10 +11,11 @@ use Rattle.law_valid.specs.declared.certificate.Entry.TheVariants as e
 use Rattle.law_valid.specs.declared.certificate.SortTree.{SortTree}
 use Rattle.law_valid.specs.declared.rule.Rule.{Rule}
 use Rattle.law_valid.specs.declared.rule.Rule.TheVariants as r
-use Rattle.law_valid.specs.Stated.{numbered}
+use Rattle.law_sig.specs.Lists.{numbered}
 use Rattle.law_valid.specs.Splits.{AreApart}
 use Rattle.law_valid.specs.Trees.{value_of}
-use Rattle.law_valid.specs.Judged.{If, Valued, Tests, AtTests, Background, Block, Entries, entry_after, with_term, Judging, all_cuts, ItemValued, ItemsValued, CutsTell, InTrees, Judged}
+use Rattle.law_valid.specs.Order.{Block}
+use Rattle.law_valid.specs.Judged.{If, Valued, Tests, AtTests, Background, block_after, OfEntry, Entries, entry_after, Judging, all_cuts, ItemValued, ItemsValued, CutsTell, InTrees, Judged}
 use Rattle.law_valid.specs.declared.rule.Answer.{Answer}
 use Rattle.law_valid.specs.declared.rule.Answer.TheVariants.{No, Over}
 
@@ -48,22 +49,18 @@ module _ (parts : SigParts) (pools : Pools) where
   background_one [] rest one = one
   background_one (q ∷ qs) rest one = at_tests_one r.V3 0 q (Background parts pools qs rest) (background_one qs rest one)
 
+  entry_one : (before : List Entry) (block : Option Block) (x : Entry) (rest : Answer → Type 0) → IsOne rest → IsOne (OfEntry parts pools before block x rest)
+  entry_one before block (e.Law n q) rest one a b h k = if_one (at_tests_one r.V3 (entry_after before) q rest one a b) h k
+  entry_one before block (e.Lemma n q steps) rest one a b h k = if_one (one a b) h k
+  entry_one before block (e.Spread c) rest one a b h k = if_one (if_one (one a b)) h k
+  entry_one before block (e.Killed q steps) rest one a b h k = if_one (if_one (if_one (at_tests_one r.V6 (entry_after before) q rest one a b))) h k
+  entry_one before block (e.Live t) rest one a b h k = if_one (if_one (one a b)) h k
+  entry_one before block (e.Moved q steps) rest one a b h k = if_one (if_one (if_one (at_tests_one r.V7 (entry_after before) q rest one a b))) h k
+
   entries_one : (close : Answer → Type 0) → IsOne close → (before : List Entry) (block : Option Block) (xs : List Entry) → IsOne (Entries parts pools close before block xs)
-  entries_one close one before block [] a b h k = if_one (if_one (one a b)) h k
-  entries_one close one before block (e.Law n q ∷ xs) a b h k =
-      if_one (at_tests_one r.V3 (entry_after before) q (Entries parts pools close (before ++ e.Law n q ∷ []) block xs)
-      (entries_one close one (before ++ e.Law n q ∷ []) block xs) a b) h k
-  entries_one close one before block (e.Lemma n q steps ∷ xs) a b h k = if_one (entries_one close one (before ++ e.Lemma n q steps ∷ []) block xs a b) h k
-  entries_one close one before block (e.Spread c ∷ xs) a b h k =
-      if_one (if_one (entries_one close one (before ++ e.Spread c ∷ []) (Some (record { schema = c; terms = [] })) xs a b)) h k
-  entries_one close one before block (e.Killed q steps ∷ xs) a b h k =
-      if_one (if_one (if_one (at_tests_one r.V6 (entry_after before) q (Entries parts pools close (before ++ e.Killed q steps ∷ []) None xs)
-      (entries_one close one (before ++ e.Killed q steps ∷ []) None xs) a b))) h k
-  entries_one close one before block (e.Live t ∷ xs) a b h k =
-      if_one (if_one (entries_one close one (before ++ e.Live t ∷ []) (with_term block t) xs a b)) h k
-  entries_one close one before block (e.Moved q steps ∷ xs) a b h k =
-      if_one (if_one (if_one (at_tests_one r.V7 (entry_after before) q (Entries parts pools close (before ++ e.Moved q steps ∷ []) (with_term block q.left) xs)
-      (entries_one close one (before ++ e.Moved q steps ∷ []) (with_term block q.left) xs) a b))) h k
+  entries_one close one before block [] a b = if_one (if_one (one a b))
+  entries_one close one before block (x ∷ xs) a b = entry_one before block x (Entries parts pools close (before ++ x ∷ []) (block_after block x) xs)
+      (entries_one close one (before ++ x ∷ []) (block_after block x) xs) a b
 
   items_one : (rule : Rule) (entry : ℕ) (ts : List Tree) (test : ℕ) (ns : List ℕ) (rest : Answer → Type 0) → IsOne rest
       → IsOne (ItemsValued parts pools rule entry ts test ns rest)

@@ -2,10 +2,9 @@
 -- first in the order of checking. The definition goes through the certificate in that order: each condition stands before
 -- the rest, and either holds, and then the rest decides, or fails, and then its fault is the answer.
 use Rattle.std.specs.Prelude.{◌≡◌, ℕ, zero, suc, ◌+◌, ◌⊎◌, List, [], ◌∷◌, ◌++◌, length, map, Option, Some, None}
-use Rattle.law_sig.specs.Lists.{Each}
+use Rattle.law_sig.specs.Lists.{Each, numbered}
 use Rattle.law_sig.specs.Trees.{schema_of, joined}
 use Rattle.law_sig.specs.Tests.{InU, Pools, test_count, val}
-use Rattle.law_sig.specs.Order.{IsBefore}
 use Rattle.law_sig.specs.declared.tree.SortId.{SortId}
 use Rattle.law_sig.specs.declared.tree.Tree.{Tree}
 use Rattle.law_sig.specs.declared.parts.Equation.{Equation}
@@ -23,12 +22,12 @@ use Rattle.law_valid.specs.declared.rule.Answer.{Answer}
 use Rattle.law_valid.specs.declared.rule.Answer.TheVariants.{Yes, No, Over}
 use Rattle.law_valid.specs.declared.rule.Rule.{Rule}
 use Rattle.law_valid.specs.declared.rule.Rule.TheVariants as r
-use Rattle.law_valid.specs.Stated.{stated, schema_at, spread_at, live_at, numbered}
-use Rattle.law_valid.specs.Schemas.{IsConsidered, IsInstance}
+use Rattle.law_valid.specs.Stated.{stated, schema_at, spread_at, live_at}
+use Rattle.law_valid.specs.Order.{Block, Progress, Decision, spread, killed, live, moved, with_term, IsTermSpent, IsTermNext, AreSpent, IsSchemaNext}
 use Rattle.law_valid.specs.Splits.{Cut, leaves_of, cuts_of, AreApart}
 use Rattle.law_valid.specs.Trees.{value_of, of_schemas, HasSchemas, HasTerms, HasSpread, IsEarlierSort}
 use Rattle.law_valid.specs.Valid.{IsWithinLimits, IsNextNumber, IsLemma, IsKilled, IsMoved}
-use Rattle.law_valid.specs.Expected.{IsFirstAbove, IsSpent}
+use Rattle.law_sig.specs.Expected.{IsFirstAbove, IsSpent}
 
 -- Answers
 
@@ -60,31 +59,28 @@ Background parts pools (q ∷ qs) rest = AtTests parts pools r.V3 0 q (Backgroun
 
 -- Entries
 
--- a spread schema whose instances are expected, and its terms so far
-pub record Block : Type 0 where
-  pub schema : Tree
-  pub terms : List Tree
+-- what an entry decides of a schema or a term, which is all that the order looks at: a law or a lemma may stand anywhere
+abbrev pub decision_at : Entry → List Decision
+decision_at (e.Law number q) = []
+decision_at (e.Lemma number q steps) = []
+decision_at (e.Spread c) = spread c ∷ []
+decision_at (e.Killed q steps) = killed (schema_of q.left) ∷ []
+decision_at (e.Live t) = live t ∷ []
+decision_at (e.Moved q steps) = moved q.left ∷ []
 
--- given the live terms so far: no instance is expected
-abbrev pub IsBlockSpent : SigParts → List Tree → Option Block → Type 0
-IsBlockSpent parts lives None = Unit {0}
-IsBlockSpent parts lives (Some block) = IsSpent (IsBefore parts) (IsInstance parts lives block.schema) block.terms
+-- how far these entries have come, with the spread schema whose instances are expected
+abbrev pub progress : SigParts → List Entry → Option Block → Progress
+progress parts before block =
+    record { parts = parts; spreads = stated spread_at before; schemas = stated schema_at before; lives = stated live_at before; block = block }
 
--- this instance is expected
-abbrev pub IsNextTerm : SigParts → List Tree → Option Block → Tree → Type 0
-IsNextTerm parts lives None t = ⊥
-IsNextTerm parts lives (Some block) t = IsFirstAbove (IsBefore parts) (IsInstance parts lives block.schema) block.terms t
-
-abbrev pub with_term : Option Block → Tree → Option Block
-with_term None t = None
-with_term (Some block) t = Some (record { schema = block.schema; terms = block.terms ++ t ∷ [] })
-
--- this schema is expected, over the entries so far; and none is
-abbrev pub IsNextSchema : SigParts → List Entry → Tree → Type 0
-IsNextSchema parts before c = IsFirstAbove (IsBefore parts) (IsConsidered parts (stated spread_at before)) (stated schema_at before) c
-
-abbrev pub AreSchemasSpent : SigParts → List Entry → Type 0
-AreSchemasSpent parts before = IsSpent (IsBefore parts) (IsConsidered parts (stated spread_at before)) (stated schema_at before)
+-- the schema whose instances are expected after an entry
+abbrev pub block_after : Option Block → Entry → Option Block
+block_after block (e.Law number q) = block
+block_after block (e.Lemma number q steps) = block
+block_after block (e.Spread c) = Some (record { schema = c; terms = [] })
+block_after block (e.Killed q steps) = None
+block_after block (e.Live t) = with_term block t
+block_after block (e.Moved q steps) = with_term block q.left
 
 -- both sides of a law are in the universe, of one sort
 pub record HasSides (parts : SigParts) (q : Equation) : Type 0 where
@@ -96,40 +92,43 @@ pub record HasSides (parts : SigParts) (q : Equation) : Type 0 where
 abbrev pub entry_after : List Entry → ℕ
 entry_after before = length before + 1
 
--- A law or a lemma may stand anywhere. A schema may stand where no instance is expected, and has to be the expected schema.
--- A term may stand where an instance is expected, and has to be that one. Where the entries end, nothing is expected.
-abbrev pub Entries : SigParts → Pools → (Answer → Type 0) → List Entry → Option Block → List Entry → Answer → Type 0
-Entries parts pools close before block [] =
-    If (IsBlockSpent parts (stated live_at before) block) (No r.V7 (entry_after before))
-    (If (AreSchemasSpent parts before) (No r.V5 (entry_after before))
-    close)
-Entries parts pools close before block (e.Law number q ∷ xs) =
+-- What is asked of an entry, and then the rest decides. A law or a lemma may stand anywhere. A schema may stand where no
+-- instance is expected, and has to be the expected schema. A term may stand where an instance is expected, and has to be that
+-- one.
+abbrev pub OfEntry : SigParts → Pools → List Entry → Option Block → Entry → (Answer → Type 0) → Answer → Type 0
+OfEntry parts pools before block (e.Law number q) rest =
     If (IsNextNumber parts before number × HasSides parts q) (No r.V3 (entry_after before))
-    (AtTests parts pools r.V3 (entry_after before) q
-    (Entries parts pools close (before ++ e.Law number q ∷ []) block xs))
-Entries parts pools close before block (e.Lemma number q steps ∷ xs) =
-    If (IsNextNumber parts before number × IsLemma parts before q steps) (No r.V4 (entry_after before))
-    (Entries parts pools close (before ++ e.Lemma number q steps ∷ []) block xs)
-Entries parts pools close before block (e.Spread c ∷ xs) =
-    If (IsBlockSpent parts (stated live_at before) block) (No r.V7 (entry_after before))
-    (If (IsNextSchema parts before c) (No r.V5 (entry_after before))
-    (Entries parts pools close (before ++ e.Spread c ∷ []) (Some (record { schema = c; terms = [] })) xs))
-Entries parts pools close before block (e.Killed q steps ∷ xs) =
-    If (IsBlockSpent parts (stated live_at before) block) (No r.V7 (entry_after before))
-    (If (IsNextSchema parts before (schema_of q.left)) (No r.V5 (entry_after before))
+    (AtTests parts pools r.V3 (entry_after before) q rest)
+OfEntry parts pools before block (e.Lemma number q steps) rest =
+    If (IsNextNumber parts before number × IsLemma parts before q steps) (No r.V4 (entry_after before)) rest
+OfEntry parts pools before block (e.Spread c) rest =
+    If (IsTermSpent (progress parts before block)) (No r.V7 (entry_after before))
+    (If (IsSchemaNext (progress parts before block) c) (No r.V5 (entry_after before)) rest)
+OfEntry parts pools before block (e.Killed q steps) rest =
+    If (IsTermSpent (progress parts before block)) (No r.V7 (entry_after before))
+    (If (IsSchemaNext (progress parts before block) (schema_of q.left)) (No r.V5 (entry_after before))
     (If (IsKilled parts before q steps) (No r.V6 (entry_after before))
-    (AtTests parts pools r.V6 (entry_after before) q
-    (Entries parts pools close (before ++ e.Killed q steps ∷ []) None xs))))
-Entries parts pools close before block (e.Live t ∷ xs) =
-    If (IsBlockSpent parts (stated live_at before) block → ⊥) (No r.V5 (entry_after before))
-    (If (IsNextTerm parts (stated live_at before) block t) (No r.V7 (entry_after before))
-    (Entries parts pools close (before ++ e.Live t ∷ []) (with_term block t) xs))
-Entries parts pools close before block (e.Moved q steps ∷ xs) =
-    If (IsBlockSpent parts (stated live_at before) block → ⊥) (No r.V5 (entry_after before))
-    (If (IsNextTerm parts (stated live_at before) block q.left) (No r.V7 (entry_after before))
+    (AtTests parts pools r.V6 (entry_after before) q rest)))
+OfEntry parts pools before block (e.Live t) rest =
+    If (IsTermSpent (progress parts before block) → ⊥) (No r.V5 (entry_after before))
+    (If (IsTermNext (progress parts before block) t) (No r.V7 (entry_after before)) rest)
+OfEntry parts pools before block (e.Moved q steps) rest =
+    If (IsTermSpent (progress parts before block) → ⊥) (No r.V5 (entry_after before))
+    (If (IsTermNext (progress parts before block) q.left) (No r.V7 (entry_after before))
     (If (IsMoved parts before q steps) (No r.V7 (entry_after before))
-    (AtTests parts pools r.V7 (entry_after before) q
-    (Entries parts pools close (before ++ e.Moved q steps ∷ []) (with_term block q.left) xs))))
+    (AtTests parts pools r.V7 (entry_after before) q rest)))
+
+-- what is asked where the entries end: nothing is expected
+abbrev pub OfEnd : SigParts → List Entry → Option Block → (Answer → Type 0) → Answer → Type 0
+OfEnd parts before block rest =
+    If (IsTermSpent (progress parts before block)) (No r.V7 (entry_after before))
+    (If (AreSpent (progress parts before block)) (No r.V5 (entry_after before)) rest)
+
+-- all entries, from some of them on
+abbrev pub Entries : SigParts → Pools → (Answer → Type 0) → List Entry → Option Block → List Entry → Answer → Type 0
+Entries parts pools close before block [] = OfEnd parts before block close
+Entries parts pools close before block (x ∷ xs) =
+    OfEntry parts pools before block x (Entries parts pools close (before ++ x ∷ []) (block_after block x) xs)
 
 -- Trees
 

@@ -1,12 +1,8 @@
 pub mod Stated
-pub mod Chains
-pub mod Schemas
+pub mod Order
 pub mod Splits
 pub mod Trees
 pub mod Valid
 pub mod Coverage
-pub mod Expected
 pub mod Judged
 pub mod Checking
-pub mod Named
-pub mod Certificates

@@ -1,5 +1,5 @@
 -- What the entries of a certificate state, each in the order of the entries.
-use Rattle.std.specs.Prelude.{ℕ, zero, suc, List, [], ◌∷◌, ◌++◌, Option, None, slice_get}
+use Rattle.std.specs.Prelude.{List, [], ◌∷◌, ◌++◌}
 use Rattle.law_sig.specs.Trees.{schema_of}
 use Rattle.law_sig.specs.declared.tree.Tree.{Tree}
 use Rattle.law_sig.specs.declared.parts.Equation.{Equation}
@@ -8,7 +8,7 @@ use Rattle.law_valid.specs.declared.certificate.Entry.{Entry}
 use Rattle.law_valid.specs.declared.certificate.Entry.TheVariants as e
 
 -- what is stated by each entry, one after another
-abbrev pub stated : {A : Type 0} → (Entry → List A) → List Entry → List A
+abbrev pub stated : {E A : Type 0} → (E → List A) → List E → List A
 stated f [] = []
 stated f (x ∷ xs) = f x ++ stated f xs
 
@@ -51,8 +51,3 @@ terms_after (x ∷ xs) = terms_after xs
 -- the equations that chains may name, in the order of their numbers: the background, then laws and lemmas
 abbrev pub known : SigParts → List Entry → List Equation
 known parts xs = parts.settings.background ++ stated equation_at xs
-
--- the item with a number, counted from 1
-abbrev pub numbered : {A : Type 0} → List A → ℕ → Option A
-numbered xs zero = None
-numbered xs (suc n) = slice_get xs n

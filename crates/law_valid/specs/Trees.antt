@@ -1,6 +1,6 @@
 -- The trees of a certificate.
 use Rattle.std.specs.Prelude.{◌≡◌, ℕ, ◌<◌, ◌↔◌, List, map, Option, Some, option_and_then}
-use Rattle.law_sig.specs.Lists.{In, Each, Rising, AreDistinct}
+use Rattle.law_sig.specs.Lists.{In, Each, Rising, AreDistinct, numbered}
 use Rattle.law_sig.specs.Trees.{schema_of, joined}
 use Rattle.law_sig.specs.Signature.{sort_of}
 use Rattle.law_sig.specs.Tests.{Pools, test_count, IsFlat, val}
@@ -10,7 +10,7 @@ use Rattle.law_sig.specs.declared.parts.SigParts.{SigParts}
 use Rattle.law_valid.specs.declared.certificate.Class.{Class}
 use Rattle.law_valid.specs.declared.certificate.Entry.{Entry}
 use Rattle.law_valid.specs.declared.certificate.SortTree.{SortTree}
-use Rattle.law_valid.specs.Stated.{stated, spread_at, live_at, numbered}
+use Rattle.law_valid.specs.Stated.{stated, spread_at, live_at}
 use Rattle.law_valid.specs.Splits.{Cut, leaves_of, cuts_of, tests_of, Tells}
 
 -- Numbers of spread schemas and of live terms

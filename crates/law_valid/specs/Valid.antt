@@ -10,16 +10,16 @@ use Rattle.law_sig.specs.Laws.{IsLaw, IsBackgroundTrue}
 use Rattle.law_sig.specs.declared.tree.SortId.{SortId}
 use Rattle.law_sig.specs.declared.parts.Equation.{Equation}
 use Rattle.law_sig.specs.declared.parts.SigParts.{SigParts}
-use Rattle.law_laws.specs.Filling.{IsNumbered}
+use Rattle.law_sig.specs.General.{IsNumbered}
 use Rattle.law_gen.specs.Draws.{pools_by}
 use Rattle.law_gen.specs.Sizes.{AreSmall}
 use Rattle.law_valid.specs.declared.certificate.Entry.{Entry}
 use Rattle.law_valid.specs.declared.certificate.Entry.TheVariants as e
 use Rattle.law_valid.specs.declared.certificate.SortTree.{SortTree}
-use Rattle.law_valid.specs.declared.certificate.Step.{Step}
+use Rattle.law_sig.specs.declared.chain.Step.{Step}
 use Rattle.law_valid.specs.Stated.{stated, schema_at, spread_at, live_at, terms_after, known}
-use Rattle.law_valid.specs.Chains.{Replays}
-use Rattle.law_valid.specs.Schemas.{AreExactly, IsConsidered, IsInstance}
+use Rattle.law_sig.specs.Chains.{Replays}
+use Rattle.law_sig.specs.Schemas.{AreExactly, IsConsidered, IsInstance}
 use Rattle.law_valid.specs.Trees.{AreTrees}
 
 -- Before the entries

@@ -1,23 +1,4 @@
-use law_cert::Dir;
-use law_sig::{Equation, Seq, SortId, Tree};
-
-/// The term that a variable stands for.
-#[derive(Debug, Drop)]
-pub struct Bind {
-    pub sort: SortId,
-    pub index: u32,
-    pub term: Tree,
-}
-
-/// One replacement: at a place, by the equation with this number, with a term for each of its variables. A place is
-/// the numbers of the arguments on the way down, from 0.
-#[derive(Debug, Drop)]
-pub struct Step {
-    pub place: Seq<u32>,
-    pub number: u64,
-    pub dir: Dir,
-    pub binds: Seq<Bind>,
-}
+use law_sig::{Equation, Seq, SortId, Step, Tree};
 
 /// An entry of a certificate. A law and a lemma have their equation's number. A killed schema is shown by its most
 /// general instance and the term that it equals, a moved term with the live term that it equals.

@@ -1,31 +1,15 @@
-ghost use Rattle.law_valid.specs.Certificates.{CertCovers, CertYesIsValid, OneCertAnswer, OneReading, SpelledMeans, NamesReadBack};
-ghost use Rattle.law_valid.specs.Checking.{YesIsValid, OneAnswer};
-ghost use Rattle.law_valid.specs.Coverage.{ChainsDerive, ValidCovers};
+ghost use Rattle.law_valid.specs.Checking.{YesIsValid, OneAnswer, InOrderIsWhole};
+ghost use Rattle.law_valid.specs.Coverage.{ValidCovers};
 
-use law_types::typing_laws;
-
-/// The laws of a valid certificate cover the universe. A chain that replays is a derivation.
+/// The laws of a valid certificate cover the universe.
 pub fn coverage_laws()
-    ensures chains { ChainsDerive }
     ensures covers { ValidCovers }
 {}
 
-/// The order of checking finds nothing wrong exactly where the certificate is valid, and has one answer at most.
+/// The order of checking finds nothing wrong exactly where the certificate is valid, and has one answer at most. Entries that
+/// are expected one by one, until nothing is, have exactly the considered schemas, each with exactly its instances.
 pub fn checking_laws()
     ensures exact { YesIsValid }
     ensures one { OneAnswer }
+    ensures order { InOrderIsWhole }
 {}
-
-/// The same of a certificate by its names: its laws cover, and the order of checking finds nothing wrong exactly where it
-/// is valid, and has one answer at most. The lines of its trees have one reading; and each that the grammar spells has
-/// one, where its first lines state a signature. Sorts and terms that are written by their names are read back.
-pub fn certificate_laws()
-    ensures covers { CertCovers }
-    ensures exact { CertYesIsValid }
-    ensures one { OneCertAnswer }
-    ensures reading { OneReading }
-    ensures spelled { SpelledMeans }
-    ensures names { NamesReadBack }
-{
-    typing_laws();
-}

@@ -6,6 +6,6 @@ mod certificate;
 mod laws;
 mod rule;
 
-pub use certificate::{Bind, Branch, Class, Entry, SortTree, Step};
-pub use laws::{certificate_laws, checking_laws, coverage_laws};
+pub use certificate::{Branch, Class, Entry, SortTree};
+pub use laws::{checking_laws, coverage_laws};
 pub use rule::{Answer, Rule};

@@ -1,6 +1,6 @@
 use Rattle.std.proofs.Common.{subst, refl}
 use Rattle.law_sig.specs.declared.tree.Tree.TheVariants.{Var}
-use Rattle.law_valid.specs.Schemas.{IsConsidered}
+use Rattle.law_sig.specs.Schemas.{IsConsidered}
 use Rattle.law_agenda.specs.Candidates.{FirstOf}
 use Rattle.law_agenda.specs.Stages.{Onward}
 use Rattle.law_agenda.specs.Stores.{FirstVar}

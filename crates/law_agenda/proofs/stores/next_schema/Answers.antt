@@ -1,5 +1,5 @@
 use Rattle.std.proofs.Common.{◌≡◌, ◌<◌, ◌-◌, ◌^◌, suc, subst, arith}
-use Rattle.law_valid.specs.Schemas.{IsConsidered}
+use Rattle.law_sig.specs.Schemas.{IsConsidered}
 use Rattle.law_agenda.specs.Candidates.{IsCandidate, IsApplication, FirstOf, NextOf}
 use Rattle.law_agenda.specs.Stages.{Here, Onward}
 use Rattle.law_agenda.specs.Stores.{IsFitting}

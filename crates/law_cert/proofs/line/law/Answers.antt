@@ -1,5 +1,5 @@
 use Rattle.std.proofs.Common.{rules}
-use Rattle.law_cert.proofs.TailFacts.{no_law_mark, no_law_sides}
+use Rattle.law_cert_text.proofs.TailFacts.{no_law_mark, no_law_sides}
 use Rattle.law_cert.proofs.line.law.Goals as goal
 
 pub returns-in-None-next_mark : goal.returns-in-None-next_mark

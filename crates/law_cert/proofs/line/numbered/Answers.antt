@@ -1,5 +1,5 @@
 use Rattle.std.proofs.Common.{rules}
-use Rattle.law_cert.proofs.TailFacts.{no_move_binds, no_move_dir}
+use Rattle.law_cert_text.proofs.TailFacts.{no_move_binds, no_move_dir}
 use Rattle.law_cert.proofs.line.numbered.Goals as goal
 
 pub returns-in-None-next_dir : goal.returns-in-None-next_dir

@@ -1,5 +1,5 @@
 use Rattle.std.proofs.Common.{◌++◌, ap, sym, ◌∙◌}
-use Rattle.law_cert.proofs.TailFacts.{key_is, no_key, whole_ok}
+use Rattle.law_cert_text.proofs.TailFacts.{key_is, no_key, whole_ok}
 use Rattle.law_cert.proofs.line.read_line.Goals as goal
 
 pub tail-requires : goal.tail-requires

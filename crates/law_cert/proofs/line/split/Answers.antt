@@ -1,5 +1,5 @@
 use Rattle.std.proofs.Common.{rules}
-use Rattle.law_cert.proofs.TailFacts.{no_split_count, too_few}
+use Rattle.law_cert_text.proofs.TailFacts.{no_split_count, too_few}
 use Rattle.law_cert.proofs.line.split.Goals as goal
 
 pub returns-in-None-last_number : goal.returns-in-None-last_number

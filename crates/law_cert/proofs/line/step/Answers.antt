@@ -1,5 +1,5 @@
 use Rattle.std.proofs.Common.{rules}
-use Rattle.law_cert.proofs.TailFacts.{no_step_move}
+use Rattle.law_cert_text.proofs.TailFacts.{no_step_move}
 use Rattle.law_cert.proofs.line.step.Goals as goal
 
 pub returns-in-None-2 : goal.returns-in-None-2

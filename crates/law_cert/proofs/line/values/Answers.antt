@@ -1,5 +1,5 @@
 use Rattle.std.proofs.Common.{rules}
-use Rattle.law_cert.proofs.TailFacts.{no_values, values_found}
+use Rattle.law_cert_text.proofs.TailFacts.{no_values, values_found}
 use Rattle.law_cert.proofs.line.values.Goals as goal
 
 pub returns-in-None : goal.returns-in-None

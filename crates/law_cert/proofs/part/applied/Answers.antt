@@ -1,5 +1,5 @@
 use Rattle.std.proofs.Common.{rules}
-use Rattle.law_cert.proofs.ArgFacts.{not_applied}
+use Rattle.law_cert_text.proofs.ArgFacts.{not_applied}
 use Rattle.law_cert.proofs.part.applied.Goals as goal
 
 pub returns-else-has_args : goal.returns-else-has_args

@@ -1,4 +1,4 @@
-use Rattle.law_cert.proofs.ArgFacts.{applied_ok, atom_ok}
+use Rattle.law_cert_text.proofs.ArgFacts.{applied_ok, atom_ok}
 use Rattle.law_cert.proofs.part.arg.Goals as goal
 
 pub returns-in-None : goal.returns-in-None

@@ -1,5 +1,5 @@
 use Rattle.std.proofs.Common.{rules}
-use Rattle.law_cert.proofs.ArgFacts.{arg_all, arg_ends, arg_goes}
+use Rattle.law_cert_text.proofs.ArgFacts.{arg_all, arg_ends, arg_goes}
 use Rattle.law_cert.proofs.part.arg_len.Goals as goal
 
 pub returns-in-None-clause-text : goal.returns-in-None-clause-text

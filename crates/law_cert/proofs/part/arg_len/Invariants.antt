@@ -1,5 +1,5 @@
 use Rattle.std.proofs.Common.{◌≡◌, ◌≤◌, ◌++◌, take, drop}
-use Rattle.law_read.specs.FirstArg.{word_at}
+use Rattle.law_lines.specs.FirstArg.{word_at}
 use Rattle.law_cert.proofs.part.arg_len.Given as goal
 
 abbrev pub invariant-loop-at : goal.invariant-loop-at

@@ -1,5 +1,5 @@
 use Rattle.std.proofs.Common.{rules}
-use Rattle.law_cert.proofs.ArgFacts.{not_atom}
+use Rattle.law_cert_text.proofs.ArgFacts.{not_atom}
 use Rattle.law_cert.proofs.part.atom.Goals as goal
 
 pub returns-then-has_args : goal.returns-then-has_args

@@ -1,9 +1,9 @@
 use Rattle.std.proofs.Common.{rules}
-use Rattle.law_cert.specs.declared.cert.RawBind.{RawBind}
-use Rattle.law_cert.specs.Spelling.{bind_text}
-use Rattle.law_cert.specs.Certificates.{IsBind}
-use Rattle.law_cert.proofs.ArgFacts.{one_bind}
-use Rattle.law_cert.proofs.RowFacts.{row_next, row_none, some_bytes}
+use Rattle.law_cert_text.specs.declared.cert.RawBind.{RawBind}
+use Rattle.law_cert_text.specs.Spelling.{bind_text}
+use Rattle.law_cert_text.specs.Certificates.{IsBind}
+use Rattle.law_cert_text.proofs.ArgFacts.{one_bind}
+use Rattle.law_cert_text.proofs.RowFacts.{row_next, row_none, some_bytes}
 use Rattle.law_cert.proofs.part.binds.Goals as goal
 
 pub returns-in-None : goal.returns-in-None

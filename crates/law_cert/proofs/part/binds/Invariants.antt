@@ -1,8 +1,8 @@
 use Rattle.std.proofs.Common.{length}
-use Rattle.law_cert.specs.declared.cert.RawBind.{RawBind}
-use Rattle.law_cert.specs.Spelling.{bind_text}
-use Rattle.law_cert.specs.Certificates.{IsBind}
-use Rattle.law_cert.specs.Words.{SoFar}
+use Rattle.law_cert_text.specs.declared.cert.RawBind.{RawBind}
+use Rattle.law_cert_text.specs.Spelling.{bind_text}
+use Rattle.law_cert_text.specs.Certificates.{IsBind}
+use Rattle.law_cert_text.specs.Words.{SoFar}
 use Rattle.law_cert.proofs.part.binds.Given as goal
 
 abbrev pub invariant-loop-rest : goal.invariant-loop-rest

@@ -1,8 +1,8 @@
 use Rattle.std.proofs.Common.{rules, ℕ, List}
-use Rattle.law_read.specs.declared.want.Bounds.TheVariants.{Kept}
-use Rattle.law_read.specs.Lines.{IsName}
-use Rattle.law_cert.proofs.PartFacts.{name_unspaced}
-use Rattle.law_cert.proofs.TailFacts.{no_last, not_last}
+use Rattle.law_lines.specs.declared.want.Bounds.TheVariants.{Kept}
+use Rattle.law_lines.specs.Lines.{IsName}
+use Rattle.law_cert_text.proofs.PartFacts.{name_unspaced}
+use Rattle.law_cert_text.proofs.TailFacts.{no_last, not_last}
 use Rattle.law_cert.proofs.part.last_name.Goals as goal
 
 pub returns-in-None : goal.returns-in-None

@@ -1,7 +1,7 @@
 use Rattle.std.proofs.Common.{rules, ℕ, decimal}
-use Rattle.law_read.specs.Lines.{IsNumber}
-use Rattle.law_cert.proofs.PartFacts.{number_unspaced}
-use Rattle.law_cert.proofs.TailFacts.{no_last, not_last}
+use Rattle.law_lines.specs.Lines.{IsNumber}
+use Rattle.law_cert_text.proofs.PartFacts.{number_unspaced}
+use Rattle.law_cert_text.proofs.TailFacts.{no_last, not_last}
 use Rattle.law_cert.proofs.part.last_number.Goals as goal
 
 pub returns-in-None : goal.returns-in-None

@@ -1,5 +1,5 @@
 use Rattle.std.proofs.Common.{rules}
-use Rattle.law_cert.proofs.ArgFacts.{no_arg, not_behind}
+use Rattle.law_cert_text.proofs.ArgFacts.{no_arg, not_behind}
 use Rattle.law_cert.proofs.part.next_arg.Goals as goal
 
 pub returns-then-not-is_behind : goal.returns-then-not-is_behind

@@ -1,5 +1,5 @@
 use Rattle.std.proofs.Common.{rules}
-use Rattle.law_cert.proofs.ArgFacts.{no_bind_term, no_bind_variable}
+use Rattle.law_cert_text.proofs.ArgFacts.{no_bind_term, no_bind_variable}
 use Rattle.law_cert.proofs.part.next_bind.Goals as goal
 
 pub returns-in-None-variable : goal.returns-in-None-variable

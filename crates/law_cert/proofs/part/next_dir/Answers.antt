@@ -1,5 +1,5 @@
 use Rattle.std.proofs.Common.{rules}
-use Rattle.law_cert.proofs.PartFacts.{no_dir}
+use Rattle.law_cert_text.proofs.PartFacts.{no_dir}
 use Rattle.law_cert.proofs.part.next_dir.Goals as goal
 
 pub returns-in-None-dir_of : goal.returns-in-None-dir_of

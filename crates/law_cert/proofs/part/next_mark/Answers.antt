@@ -1,5 +1,5 @@
 use Rattle.std.proofs.Common.{rules}
-use Rattle.law_cert.proofs.PartFacts.{no_mark}
+use Rattle.law_cert_text.proofs.PartFacts.{no_mark}
 use Rattle.law_cert.proofs.part.next_mark.Goals as goal
 
 pub returns-in-None-mark_of : goal.returns-in-None-mark_of

@@ -1,4 +1,4 @@
-use Rattle.law_cert.proofs.PartFacts.{no_name, not_name}
+use Rattle.law_cert_text.proofs.PartFacts.{no_name, not_name}
 use Rattle.law_cert.proofs.part.next_name.Goals as goal
 
 pub returns-else-is_name : goal.returns-else-is_name

@@ -1,5 +1,5 @@
 use Rattle.std.proofs.Common.{rules}
-use Rattle.law_cert.proofs.PartFacts.{no_number}
+use Rattle.law_cert_text.proofs.PartFacts.{no_number}
 use Rattle.law_cert.proofs.part.next_number.Goals as goal
 
 pub returns-in-None-number : goal.returns-in-None-number

@@ -1,5 +1,5 @@
 use Rattle.std.proofs.Common.{rules}
-use Rattle.law_cert.proofs.PartFacts.{no_pos}
+use Rattle.law_cert_text.proofs.PartFacts.{no_pos}
 use Rattle.law_cert.proofs.part.next_pos.Goals as goal
 
 pub returns-in-None-2 : goal.returns-in-None-2

@@ -1,6 +1,6 @@
 use Rattle.std.proofs.Common.{rules, ℕ, decimal}
-use Rattle.law_read.specs.Lines.{IsNumber}
-use Rattle.law_cert.proofs.RowFacts.{one_number, row_next, row_none, some_bytes}
+use Rattle.law_lines.specs.Lines.{IsNumber}
+use Rattle.law_cert_text.proofs.RowFacts.{one_number, row_next, row_none, some_bytes}
 use Rattle.law_cert.proofs.part.numbers.Goals as goal
 
 pub returns-in-None : goal.returns-in-None

@@ -1,6 +1,6 @@
 use Rattle.std.proofs.Common.{ℕ, decimal, length}
-use Rattle.law_read.specs.Lines.{IsNumber}
-use Rattle.law_cert.specs.Words.{SoFar}
+use Rattle.law_lines.specs.Lines.{IsNumber}
+use Rattle.law_cert_text.specs.Words.{SoFar}
 use Rattle.law_cert.proofs.part.numbers.Given as goal
 
 abbrev pub invariant-loop-rest : goal.invariant-loop-rest

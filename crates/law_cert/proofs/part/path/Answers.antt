@@ -1,5 +1,5 @@
 use Rattle.std.proofs.Common.{rules}
-use Rattle.law_cert.proofs.RowFacts.{path_last, path_next, path_stops}
+use Rattle.law_cert_text.proofs.RowFacts.{path_last, path_next, path_stops}
 use Rattle.law_cert.proofs.part.path.Goals as goal
 
 pub returns-in-None : goal.returns-in-None

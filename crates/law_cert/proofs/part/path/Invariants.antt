@@ -1,5 +1,5 @@
 use Rattle.std.proofs.Common.{length}
-use Rattle.law_cert.specs.Words.{PathSoFar}
+use Rattle.law_cert_text.specs.Words.{PathSoFar}
 use Rattle.law_cert.proofs.part.path.Given as goal
 
 abbrev pub invariant-loop-digits : goal.invariant-loop-digits

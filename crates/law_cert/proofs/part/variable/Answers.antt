@@ -1,5 +1,5 @@
 use Rattle.std.proofs.Common.{rules}
-use Rattle.law_cert.proofs.ArgFacts.{no_index, not_variable}
+use Rattle.law_cert_text.proofs.ArgFacts.{no_index, not_variable}
 use Rattle.law_cert.proofs.part.variable.Goals as goal
 
 pub returns-then-not-is_name : goal.returns-then-not-is_name

@@ -1,5 +1,6 @@
 use Rattle.std.proofs.Common.{rules}
-use Rattle.law_cert.proofs.Stuck.{bodied_more, draft_stuck, line_stuck}
+use Rattle.law_cert_text.proofs.Stuck.{draft_stuck, line_stuck}
+use Rattle.law_cert.proofs.PhaseFacts.{bodied_more}
 use Rattle.law_cert.proofs.phase.bodied.Goals as goal
 
 pub returns-in-None : goal.returns-in-None

@@ -1,6 +1,6 @@
 use Rattle.std.proofs.Common.{subst}
-use Rattle.law_read.specs.Progress.{Refused}
-use Rattle.law_cert.proofs.Stuck.{refused_stuck}
+use Rattle.law_places.specs.Progress.{Refused}
+use Rattle.law_cert.proofs.PhaseFacts.{refused_stuck}
 use Rattle.law_cert.proofs.phase.signed.Goals as goal
 
 pub returns-in-Err-Form : goal.returns-in-Err-Form

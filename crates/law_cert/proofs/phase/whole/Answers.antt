@@ -1,5 +1,5 @@
 use Rattle.std.proofs.Common.{inr, refl}
-use Rattle.law_cert.proofs.BodyText.{finished_by}
+use Rattle.law_cert.proofs.PhaseFacts.{finished_by}
 use Rattle.law_cert.proofs.Ends.{body_ends}
 use Rattle.law_cert.proofs.phase.whole.Goals as goal
 

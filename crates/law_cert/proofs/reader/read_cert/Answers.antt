@@ -1,5 +1,5 @@
-use Rattle.law_cert.specs.Readers.{RefusedBy}
-use Rattle.law_cert.proofs.Refusals.{feed_refused, passed_err}
+use Rattle.law_cert_text.specs.Readers.{RefusedBy}
+use Rattle.law_cert_text.proofs.Refusals.{feed_refused, passed_err}
 use Rattle.law_cert.proofs.reader.read_cert.Goals as goal
 
 pub returns-in_err-feed-clause-err : goal.returns-in_err-feed-clause-err

@@ -1,6 +1,6 @@
 use Rattle.std.proofs.Common.{◌≡◌, ◌++◌, take, map}
-use Rattle.law_read.specs.Spelling.{spaced}
-use Rattle.law_cert.specs.Spelling.{bind_text}
+use Rattle.law_lines.specs.Spelling.{spaced}
+use Rattle.law_cert_text.specs.Spelling.{bind_text}
 use Rattle.law_cert.proofs.write.put_binds.Given as goal
 
 abbrev pub invariant-loop-bind : goal.invariant-loop-bind

@@ -1,5 +1,5 @@
 use Rattle.std.proofs.Common.{◌≡◌, ◌++◌, take}
-use Rattle.law_cert.specs.Spelling.{dotted}
+use Rattle.law_cert_text.specs.Spelling.{dotted}
 use Rattle.law_cert.proofs.write.put_dotted.Given as goal
 
 abbrev pub invariant-loop-number : goal.invariant-loop-number

@@ -1,7 +1,7 @@
 use Rattle.std.proofs.Common.{◌≡◌, ◌++◌, take}
 use Rattle.std.specs.List.{flat_map}
-use Rattle.law_read.specs.Spelling.{text_of}
-use Rattle.law_cert.specs.Spelling.{pool_lines}
+use Rattle.law_lines.specs.Spelling.{text_of}
+use Rattle.law_cert_text.specs.Spelling.{pool_lines}
 use Rattle.law_cert.proofs.write.put_pools.Given as goal
 
 abbrev pub invariant-loop-pool : goal.invariant-loop-pool

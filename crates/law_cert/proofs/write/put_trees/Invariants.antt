@@ -1,7 +1,7 @@
 use Rattle.std.proofs.Common.{◌≡◌, ◌++◌, take}
 use Rattle.std.specs.List.{flat_map}
-use Rattle.law_read.specs.Spelling.{text_of}
-use Rattle.law_cert.specs.Spelling.{tree_lines}
+use Rattle.law_lines.specs.Spelling.{text_of}
+use Rattle.law_cert_text.specs.Spelling.{tree_lines}
 use Rattle.law_cert.proofs.write.put_trees.Given as goal
 
 abbrev pub invariant-loop-tree : goal.invariant-loop-tree

@@ -1,6 +1,6 @@
 use Rattle.std.proofs.Common.{◌∙◌, ap}
-use Rattle.law_check.specs.Verdicts.{counted}
-use Rattle.law_check.proofs.CertFacts.{yes_told, no_told, over_told}
+use Rattle.law_checking.specs.Verdicts.{counted}
+use Rattle.law_checking.proofs.CertFacts.{yes_told, no_told, over_told}
 use Rattle.law_check.proofs.check.told.Goals as goal
 
 pub returns-in-Yes-clause-verdict : goal.returns-in-Yes-clause-verdict

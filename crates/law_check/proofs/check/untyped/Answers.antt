@@ -1,4 +1,4 @@
-use Rattle.law_check.proofs.CertFacts.{untyped_no}
+use Rattle.law_checking.proofs.CertFacts.{untyped_no}
 use Rattle.law_check.proofs.check.untyped.Goals as goal
 
 pub returns-clause-verdict : goal.returns-clause-verdict

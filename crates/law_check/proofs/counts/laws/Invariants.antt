@@ -1,6 +1,6 @@
 use Rattle.std.proofs.Common.{◌≡◌, ◌+◌, ◌≤◌, drop, length}
 use Rattle.std.specs.List.{filter}
-use Rattle.law_check.specs.Verdicts.{is_law}
+use Rattle.law_checking.specs.Verdicts.{is_law}
 use Rattle.law_check.proofs.counts.laws.Given as goal
 
 abbrev pub invariant-loop-entry : goal.invariant-loop-entry

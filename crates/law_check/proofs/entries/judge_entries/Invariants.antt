@@ -1,5 +1,5 @@
 use Rattle.law_value.specs.Values.{Grows}
-use Rattle.law_check.specs.Steps.{HasWalked}
+use Rattle.law_check.specs.Seeing.{HasWalked}
 use Rattle.law_check.proofs.entries.judge_entries.Given as goal
 
 abbrev pub invariant-loop-at : goal.invariant-loop-at

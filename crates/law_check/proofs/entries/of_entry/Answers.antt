@@ -1,5 +1,5 @@
 use Rattle.std.proofs.Common.{sym, subst}
-use Rattle.law_check.specs.Steps.{IsAnswerTo}
+use Rattle.law_check.specs.Seeing.{IsAnswerTo}
 use Rattle.law_check.proofs.entries.of_entry.Goals as goal
 
 pub returns-in-Spread-clause-answer : goal.returns-in-Spread-clause-answer

@@ -3,7 +3,7 @@ use Rattle.law_sig.specs.Tests.{assignments}
 use Rattle.law_gen.specs.Draws.{pools_by}
 use Rattle.law_gen.specs.Made.{WhereTooLarge}
 use Rattle.law_gen.specs.Sizes.{IsFirst}
-use Rattle.law_check.proofs.CertFacts.{too_many, few_enough, over_limits, large_value, within_limits}
+use Rattle.law_checking.proofs.CertFacts.{too_many, few_enough, over_limits, large_value, within_limits}
 use Rattle.law_check.proofs.judge.judge.Goals as goal
 
 pub returns-then-is_none : goal.returns-then-is_none

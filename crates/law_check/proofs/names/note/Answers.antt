@@ -1,5 +1,5 @@
 use Rattle.std.proofs.Common.{◌≡◌, [], ◌∷◌, ◌++◌, OnOk, subst, sym}
-use Rattle.law_types.proofs.NameTable.{noted}
+use Rattle.law_typing.proofs.NameTable.{noted}
 use Rattle.law_check.proofs.names.note.Goals as goal
 use Rattle.law_check.proofs.names.note.Goals.{in-Ok, in-Err}
 

@@ -1,5 +1,5 @@
 use Rattle.std.proofs.Common.{take}
-use Rattle.law_types.specs.Table.{Finds}
+use Rattle.law_typing.specs.Table.{Finds}
 use Rattle.law_check.proofs.names.sort_table.Given as goal
 
 abbrev pub invariant-loop-at : goal.invariant-loop-at

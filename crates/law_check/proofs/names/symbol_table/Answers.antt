@@ -1,5 +1,5 @@
 use Rattle.std.proofs.Common.{rules}
-use Rattle.law_check.proofs.NameFacts.{finds_next}
+use Rattle.law_checking.proofs.NameFacts.{finds_next}
 use Rattle.law_check.proofs.names.symbol_table.Goals as goal
 
 pub loop-at-preserved : goal.loop-at-preserved

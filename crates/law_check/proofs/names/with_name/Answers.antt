@@ -1,5 +1,5 @@
 use Rattle.std.proofs.Common.{rules}
-use Rattle.law_check.proofs.NameFacts.{still_finds, finds_new}
+use Rattle.law_checking.proofs.NameFacts.{still_finds, finds_new}
 use Rattle.law_check.proofs.names.with_name.Goals as goal
 
 pub returns-then-is_some : goal.returns-then-is_some

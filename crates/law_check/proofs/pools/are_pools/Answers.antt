@@ -1,7 +1,7 @@
 use Rattle.std.proofs.Common.{◌<◌, ◌∙◌, length, refl, sym, ap, subst}
 use Rattle.std.proofs.lemmas.Option.{slice_get_read}
-use Rattle.law_valid.specs.Named.{pool_named, pools_named}
-use Rattle.law_check.proofs.SameLists.{get_map, same_on}
+use Rattle.law_named.specs.Named.{pool_named, pools_named}
+use Rattle.law_checking.proofs.SameLists.{get_map, same_on}
 use Rattle.law_check.proofs.pools.are_pools.Goals as goal
 
 pub loop-at-preserved : goal.loop-at-preserved

@@ -1,5 +1,5 @@
 use Rattle.std.proofs.Common.{◌≡◌, take}
-use Rattle.law_valid.specs.Named.{pools_named}
+use Rattle.law_named.specs.Named.{pools_named}
 use Rattle.law_check.proofs.pools.are_pools.Given as goal
 
 abbrev pub invariant-loop-at : goal.invariant-loop-at

@@ -1,5 +1,5 @@
 use Rattle.std.proofs.Common.{◌≡◌, take, map}
-use Rattle.law_valid.specs.Named.{term_named}
+use Rattle.law_named.specs.Named.{term_named}
 use Rattle.law_check.proofs.pools.are_terms.Given as goal
 
 abbrev pub invariant-loop-at : goal.invariant-loop-at

@@ -1,7 +1,7 @@
 use Rattle.std.proofs.Common.{◌<◌, ◌≤◌, ◌∙◌, length, refl, sym, subst}
 use Rattle.std.proofs.lemmas.Option.{slice_get_read}
-use Rattle.law_valid.specs.Named.{values_named, pool_named}
-use Rattle.law_check.proofs.SameLists.{get_pool, pool_length, never_long, never_same, same_on, same_all}
+use Rattle.law_named.specs.Named.{values_named, pool_named}
+use Rattle.law_checking.proofs.SameLists.{get_pool, pool_length, never_long, never_same, same_on, same_all}
 use Rattle.law_check.proofs.pools.is_pool.Goals as goal
 
 pub returns-then-written-pool : goal.returns-then-written-pool

@@ -1,5 +1,5 @@
 use Rattle.std.proofs.Common.{refl, sym, ◌∙◌}
-use Rattle.law_check.proofs.Falling.{falls_by, light}
+use Rattle.law_checking.proofs.Falling.{falls_by, light}
 use Rattle.law_check.proofs.rules.falls.Goals as goal
 
 pub compare-requires-clause-left : goal.compare-requires-clause-left

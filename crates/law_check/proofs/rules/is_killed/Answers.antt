@@ -1,4 +1,4 @@
-use Rattle.law_check.proofs.Falling.{told_killed, not_killed}
+use Rattle.law_checking.proofs.Falling.{told_killed, not_killed}
 use Rattle.law_check.proofs.rules.is_killed.Goals as goal
 
 pub returns-then-not-below : goal.returns-then-not-below

@@ -1,8 +1,8 @@
 use Rattle.std.proofs.Common.{subst}
-use Rattle.law_cert.specs.Readers.{HasHeard, NotWhole}
+use Rattle.law_cert_text.specs.Readers.{HasHeard, NotWhole}
 use Rattle.law_cli.specs.declared.status.FormKind.TheVariants as form
 use Rattle.law_cli.specs.declared.status.Status.TheVariants as status
-use Rattle.law_cert.proofs.Joined.{not_whole}
+use Rattle.law_cert_text.proofs.Joined.{not_whole}
 use Rattle.law_cli.proofs.AnswerFacts.{check_refused, whole_answer}
 use Rattle.law_cli.proofs.check.answer_to_certificate.Goals as goal
 

@@ -1,6 +1,6 @@
 use Rattle.std.proofs.Common.{subst}
-use Rattle.law_cert.specs.Readers.{IsStopped}
-use Rattle.law_cert.proofs.Joined.{stopped}
+use Rattle.law_cert_text.specs.Readers.{IsStopped}
+use Rattle.law_cert_text.proofs.Joined.{stopped}
 use Rattle.law_cli.proofs.pieces.hear.Goals as goal
 
 pub returns-in-Err-Form : goal.returns-in-Err-Form

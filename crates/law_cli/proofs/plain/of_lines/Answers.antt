@@ -2,10 +2,10 @@ use Rattle.law_cli.proofs.AnswerFacts.{refused}
 use Rattle.law_cli.proofs.plain.of_lines.Goals as goal
 use Rattle.law_cli.specs.declared.status.Status.TheVariants as status
 use Rattle.law_cli.specs.declared.status.FormKind.TheVariants as form
-use Rattle.law_read.specs.Spelling.{sig_spelling}
+use Rattle.law_lines.specs.Spelling.{sig_spelling}
 use Rattle.std.proofs.Common.{refl, subst, Err}
-use Rattle.law_types.specs.LineFaults.{TellsFault, first_fault}
-use Rattle.law_types.specs.declared.errors.TypeErr.{TypeErr}
+use Rattle.law_typing.specs.LineFaults.{TellsFault, first_fault}
+use Rattle.law_typing.specs.declared.errors.TypeErr.{TypeErr}
 use Rattle.law_sig.specs.declared.parts.SigParts.{SigParts}
 
 pub returns-in-Err-At : goal.returns-in-Err-At

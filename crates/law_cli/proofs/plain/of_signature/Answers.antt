@@ -1,5 +1,5 @@
 use Rattle.std.proofs.Common.{refl}
-use Rattle.law_read.specs.Spelling.{sig_spelling}
+use Rattle.law_lines.specs.Spelling.{sig_spelling}
 use Rattle.law_cli.proofs.AnswerFacts.{refused}
 use Rattle.law_cli.proofs.plain.of_signature.Goals as goal
 

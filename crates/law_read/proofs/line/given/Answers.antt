@@ -1,4 +1,4 @@
-use Rattle.law_read.proofs.LineSteps.{rule_read}
+use Rattle.law_places.proofs.LineSteps.{rule_read}
 use Rattle.law_read.proofs.line.given.Goals as goal
 
 pub returns : goal.returns

@@ -1,4 +1,4 @@
-use Rattle.law_read.proofs.LineSteps.{line_read, line_stops}
+use Rattle.law_places.proofs.LineSteps.{line_read, line_stops}
 use Rattle.law_read.proofs.line.read_line.Goals as goal
 
 pub returns-in-Ok : goal.returns-in-Ok

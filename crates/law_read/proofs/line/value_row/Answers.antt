@@ -1,4 +1,4 @@
-use Rattle.law_read.proofs.LineSteps.{values_read}
+use Rattle.law_places.proofs.LineSteps.{values_read}
 use Rattle.law_read.proofs.line.value_row.Goals as goal
 
 pub returns-in-Ok : goal.returns-in-Ok

@@ -1,4 +1,4 @@
-use Rattle.law_read.proofs.Grown.{stops_at}
+use Rattle.law_places.proofs.Grown.{stops_at}
 use Rattle.law_read.proofs.read.read_lines.Goals as goal
 
 pub returns-in-Err-clause-form : goal.returns-in-Err-clause-form

@@ -1,9 +1,9 @@
 use Rattle.std.proofs.Common.{◌≡◌, ◌++◌, length, None}
 use Rattle.std.specs.List.{AllByRecursion}
-use Rattle.law_read.specs.Spelling.{sig_spelling}
-use Rattle.law_read.specs.Stages.{InOrder, start}
-use Rattle.law_read.specs.Lines.{IsLine}
-use Rattle.law_read.specs.declared.want.Bounds.TheVariants.{Kept}
+use Rattle.law_lines.specs.Spelling.{sig_spelling}
+use Rattle.law_lines.specs.Stages.{InOrder, start}
+use Rattle.law_lines.specs.Lines.{IsLine}
+use Rattle.law_lines.specs.declared.want.Bounds.TheVariants.{Kept}
 use Rattle.law_read.proofs.read.read_lines.Given as goal
 
 abbrev pub invariant-loop-line : goal.invariant-loop-line

@@ -1,4 +1,4 @@
-use Rattle.law_read.proofs.TextReads.{read_as}
+use Rattle.law_places.proofs.TextReads.{read_as}
 use Rattle.law_read.proofs.read.read_sig.Goals as goal
 
 pub returns-in-Ok-clause-ok : goal.returns-in-Ok-clause-ok

@@ -1,7 +1,7 @@
 use Rattle.std.proofs.Common.{subst}
-use Rattle.law_read.specs.Reads.{Stops}
-use Rattle.law_read.specs.Walk.{term_fault}
-use Rattle.law_read.proofs.TextReads.{term_refused}
+use Rattle.law_lines.specs.Reads.{Stops}
+use Rattle.law_lines.specs.Walk.{term_fault}
+use Rattle.law_places.proofs.TextReads.{term_refused}
 use Rattle.law_read.proofs.read.read_term.Goals as goal
 
 pub returns-in-Err-Form-clause-form : goal.returns-in-Err-Form-clause-form

@@ -1,5 +1,5 @@
 use Rattle.std.proofs.Common.{rules}
-use Rattle.law_read.proofs.SegmentTexts.{no_equation}
+use Rattle.law_places.proofs.SegmentTexts.{no_equation}
 use Rattle.law_read.proofs.segments.read_equation.Goals as goal
 
 pub returns-in-Err-Form : goal.returns-in-Err-Form

@@ -1,5 +1,5 @@
 use Rattle.std.proofs.Common.{rules}
-use Rattle.law_read.proofs.SegmentTexts.{no_values}
+use Rattle.law_places.proofs.SegmentTexts.{no_values}
 use Rattle.law_read.proofs.segments.read_values.Goals as goal
 
 pub returns-in-Err-Form : goal.returns-in-Err-Form

@@ -1,6 +1,6 @@
 use Rattle.std.proofs.Common.{◌≡◌, drop}
 use Rattle.std.specs.List.{list_all}
-use Rattle.law_read.specs.Faults.{is_printed}
+use Rattle.law_lines.specs.Faults.{is_printed}
 use Rattle.law_read.proofs.sig_lines.all_printed.Given as goal
 
 abbrev pub invariant-loop-byte : goal.invariant-loop-byte

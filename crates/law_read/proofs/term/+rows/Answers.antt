@@ -1,8 +1,8 @@
 use Rattle.std.proofs.Common.{rules, ◌≡◌, length, sym, subst, true}
-use Rattle.law_read.specs.Walk.{is_atom}
-use Rattle.law_read.specs.declared.want.Bounds.TheVariants.{Kept}
-use Rattle.law_read.proofs.RowSteps.{mark_read, word_is_atom}
-use Rattle.law_read.proofs.RowWhole.{bracket_read, bracket_stops, item_stops, item_bracket, item_leaf, goes_of, row_kept}
+use Rattle.law_lines.specs.Walk.{is_atom}
+use Rattle.law_lines.specs.declared.want.Bounds.TheVariants.{Kept}
+use Rattle.law_lines.proofs.RowSteps.{mark_read, word_is_atom}
+use Rattle.law_places.proofs.RowWhole.{bracket_read, bracket_stops, item_stops, item_bracket, item_leaf, goes_of, row_kept}
 use Rattle.law_read.proofs.term.+rows.Goals as goal
 
 pub args-loop-found-preserved : goal.args-loop-found-preserved

@@ -1,5 +1,5 @@
 use Rattle.std.proofs.Common.{◌≤◌, ◌*◌, ◌+◌, length}
-use Rattle.law_read.specs.Rows.{RowSoFar}
+use Rattle.law_lines.specs.Rows.{RowSoFar}
 use Rattle.law_read.proofs.term.+rows.Given as goal
 
 abbrev pub decreases-args : goal.decreases-args

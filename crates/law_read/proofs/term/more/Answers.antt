@@ -1,5 +1,5 @@
 use Rattle.std.proofs.Common.{rules}
-use Rattle.law_read.proofs.RowSteps.{row_closed, row_at_end}
+use Rattle.law_lines.proofs.RowSteps.{row_closed, row_at_end}
 use Rattle.law_read.proofs.term.more.Goals as goal
 
 pub returns-in-None : goal.returns-in-None

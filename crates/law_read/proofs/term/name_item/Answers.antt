@@ -1,6 +1,6 @@
 use Rattle.std.proofs.Common.{rules}
-use Rattle.law_read.proofs.RowSteps.{mark_read}
-use Rattle.law_read.proofs.RowNames.{name_read}
+use Rattle.law_lines.proofs.RowSteps.{mark_read}
+use Rattle.law_places.proofs.RowNames.{name_read}
 use Rattle.law_read.proofs.term.name_item.Goals as goal
 
 pub returns-then-is_mark : goal.returns-then-is_mark

@@ -1,5 +1,5 @@
 use Rattle.std.proofs.Common.{rules}
-use Rattle.law_read.proofs.RowNames.{names_end}
+use Rattle.law_places.proofs.RowNames.{names_end}
 use Rattle.law_read.proofs.term.names.Goals as goal
 
 pub returns-then-not-branch : goal.returns-then-not-branch

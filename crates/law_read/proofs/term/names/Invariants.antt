@@ -1,5 +1,5 @@
 use Rattle.std.proofs.Common.{◌≤◌, length}
-use Rattle.law_read.specs.Rows.{NamesSoFar}
+use Rattle.law_lines.specs.Rows.{NamesSoFar}
 use Rattle.law_read.proofs.term.names.Given as goal
 
 abbrev pub invariant-loop-found : goal.invariant-loop-found

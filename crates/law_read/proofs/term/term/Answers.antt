@@ -1,5 +1,5 @@
 use Rattle.std.proofs.Common.{rules}
-use Rattle.law_read.proofs.RowNames.{root_named, root_leaf, root_stops, leaf_stops}
+use Rattle.law_places.proofs.RowNames.{root_named, root_leaf, root_stops, leaf_stops}
 use Rattle.law_read.proofs.term.term.Goals as goal
 
 pub returns-in-Ok : goal.returns-in-Ok

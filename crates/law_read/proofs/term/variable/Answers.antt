@@ -1,5 +1,5 @@
-use Rattle.law_read.specs.declared.want.Bounds.TheVariants.{Kept}
-use Rattle.law_read.proofs.Cuts.{variable_read}
+use Rattle.law_lines.specs.declared.want.Bounds.TheVariants.{Kept}
+use Rattle.law_lines.proofs.Cuts.{variable_read}
 use Rattle.law_read.proofs.term.variable.Goals as goal
 
 pub returns : goal.returns

@@ -1,5 +1,5 @@
 use Rattle.std.proofs.Common.{◌≡◌, ◌++◌, take, map}
-use Rattle.law_read.specs.Spelling.{arg_spelling, spaced}
+use Rattle.law_lines.specs.Spelling.{arg_spelling, spaced}
 use Rattle.law_read.proofs.write.put_args.Given as goal
 
 abbrev pub invariant-loop-term : goal.invariant-loop-term

@@ -1,6 +1,6 @@
 use Rattle.std.proofs.Common.{rules, codes}
-use Rattle.law_read.specs.Spelling.{term_words}
-use Rattle.law_read.proofs.Spaced.{equation_put}
+use Rattle.law_lines.specs.Spelling.{term_words}
+use Rattle.law_lines.proofs.Spaced.{equation_put}
 use Rattle.law_read.proofs.write.put_background.Goals as goal
 
 pub returns : goal.returns

@@ -1,5 +1,5 @@
 use Rattle.std.proofs.Common.{◌≡◌, ◌++◌, take}
-use Rattle.law_read.specs.Spelling.{sig_spelling}
+use Rattle.law_lines.specs.Spelling.{sig_spelling}
 use Rattle.law_read.proofs.write.put_lines.Given as goal
 
 abbrev pub invariant-loop-line : goal.invariant-loop-line

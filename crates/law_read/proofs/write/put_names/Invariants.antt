@@ -1,5 +1,5 @@
 use Rattle.std.proofs.Common.{◌≡◌, ◌++◌, take}
-use Rattle.law_read.specs.Spelling.{spaced}
+use Rattle.law_lines.specs.Spelling.{spaced}
 use Rattle.law_read.proofs.write.put_names.Given as goal
 
 abbrev pub invariant-loop-name : goal.invariant-loop-name

@@ -1,5 +1,5 @@
 use Rattle.std.proofs.Common.{◌∙◌, ap, take, drop, arith}
-use Rattle.law_text.proofs.FirstPieces.{first_word}
+use Rattle.law_lines.proofs.FirstPieces.{first_word}
 use Rattle.law_text.proofs.split.first_piece.Goals as goal
 
 pub returns-else-first-eq41 : goal.returns-else-first-eq41

@@ -1,6 +1,6 @@
 use Rattle.std.proofs.Common.{◌≡◌, ◌+◌, drop}
 use Rattle.std.specs.List.{prefix_len}
-use Rattle.law_text.specs.Pieces.{is_plain}
+use Rattle.law_lines.specs.Pieces.{is_plain}
 use Rattle.law_text.proofs.split.word_len.Given as goal
 
 abbrev pub invariant-loop-byte : goal.invariant-loop-byte

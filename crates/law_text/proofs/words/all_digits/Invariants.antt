@@ -1,6 +1,6 @@
 use Rattle.std.proofs.Common.{◌≡◌, drop}
 use Rattle.std.specs.List.{list_all}
-use Rattle.law_text.specs.Words.{is_digit}
+use Rattle.law_lines.specs.Words.{is_digit}
 use Rattle.law_text.proofs.words.all_digits.Given as goal
 
 abbrev pub invariant-loop-byte : goal.invariant-loop-byte

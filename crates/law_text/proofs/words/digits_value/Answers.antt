@@ -1,5 +1,5 @@
 use Rattle.std.proofs.Common.{◌^◌, arith}
-use Rattle.law_text.proofs.Numbers.{passed}
+use Rattle.law_lines.proofs.Numbers.{passed}
 use Rattle.law_text.proofs.words.digits_value.Goals as goal
 
 pub returns-then-value-more : goal.returns-then-value-more

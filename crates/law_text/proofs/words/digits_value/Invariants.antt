@@ -1,6 +1,6 @@
 use Rattle.std.proofs.Common.{◌≡◌, ◌<◌, ◌^◌, drop, true}
 use Rattle.std.specs.List.{list_all}
-use Rattle.law_text.specs.Words.{is_digit, digits_on}
+use Rattle.law_lines.specs.Words.{is_digit, digits_on}
 use Rattle.law_text.proofs.words.digits_value.Given as goal
 
 abbrev pub invariant-loop-digit : goal.invariant-loop-digit

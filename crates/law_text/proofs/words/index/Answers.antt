@@ -1,6 +1,6 @@
 use Rattle.std.proofs.Common.{◌^◌, arith, sym, ◌∙◌}
 use Rattle.std.proofs.lemmas.Fmt.{decimal_injective}
-use Rattle.law_text.proofs.Numbers.{number_found}
+use Rattle.law_lines.proofs.Numbers.{number_found}
 use Rattle.law_text.proofs.words.index.Goals as goal
 
 pub returns-in_default-clause-none : goal.returns-in_default-clause-none

@@ -1,5 +1,5 @@
 use Rattle.std.proofs.Common.{◌^◌, rules, arith}
-use Rattle.law_text.proofs.Numbers.{number_is, number_none}
+use Rattle.law_lines.proofs.Numbers.{number_is, number_none}
 use Rattle.law_text.proofs.words.number.Goals as goal
 
 pub returns-then-is_numeral-clause-some : goal.returns-then-is_numeral-clause-some

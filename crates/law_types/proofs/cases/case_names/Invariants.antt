@@ -1,5 +1,5 @@
 use Rattle.std.proofs.Common.{◌≡◌, ◌++◌, drop}
-use Rattle.law_types.specs.LineFaults.{case_names}
+use Rattle.law_typing.specs.LineFaults.{case_names}
 use Rattle.law_types.proofs.cases.case_names.Given as goal
 
 abbrev pub invariant-loop-line : goal.invariant-loop-line

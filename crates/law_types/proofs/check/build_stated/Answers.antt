@@ -1,8 +1,8 @@
 use Rattle.std.proofs.Common.{sym, ap, subst, ◌∙◌}
 use Rattle.law_sig.specs.WellFormed.{IsWellFormed}
-use Rattle.law_types.specs.Stated.{stated}
-use Rattle.law_types.specs.Typed.{IsTypedAs}
-use Rattle.law_types.proofs.TextSound.{sound}
+use Rattle.law_typing.specs.Stated.{stated}
+use Rattle.law_typing.specs.Typed.{IsTypedAs}
+use Rattle.law_typing.proofs.TextSound.{sound}
 use Rattle.law_types.proofs.check.build_stated.Goals as goal
 
 pub build-requires : goal.build-requires

@@ -1,5 +1,5 @@
 use Rattle.std.proofs.Common.{◌≡◌, ◌+◌, drop}
-use Rattle.law_types.specs.LineFaults.{faults_from, nothing_seen}
+use Rattle.law_typing.specs.LineFaults.{faults_from, nothing_seen}
 use Rattle.law_types.proofs.check.walk.Given as goal
 
 abbrev pub invariant-loop-at : goal.invariant-loop-at

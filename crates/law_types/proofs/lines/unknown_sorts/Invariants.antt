@@ -1,5 +1,5 @@
 use Rattle.std.proofs.Common.{◌≡◌, drop}
-use Rattle.law_types.specs.LineFaults.{unknown_sorts}
+use Rattle.law_typing.specs.LineFaults.{unknown_sorts}
 use Rattle.law_types.proofs.lines.unknown_sorts.Given as goal
 
 abbrev pub invariant-loop-name : goal.invariant-loop-name

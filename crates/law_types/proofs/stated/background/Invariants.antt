@@ -1,6 +1,6 @@
 use Rattle.std.proofs.Common.{◌≡◌, ◌++◌, drop}
-use Rattle.law_types.specs.Declarations.{gathered}
-use Rattle.law_types.specs.Stated.{equation_of}
+use Rattle.law_typing.specs.Declarations.{gathered}
+use Rattle.law_typing.specs.Stated.{equation_of}
 use Rattle.law_types.proofs.stated.background.Given as goal
 
 abbrev pub invariant-loop-line : goal.invariant-loop-line

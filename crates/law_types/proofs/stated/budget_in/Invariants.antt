@@ -1,5 +1,5 @@
 use Rattle.std.proofs.Common.{◌≡◌, drop}
-use Rattle.law_types.specs.Stated.{budget_in}
+use Rattle.law_typing.specs.Stated.{budget_in}
 use Rattle.law_types.proofs.stated.budget_in.Given as goal
 
 abbrev pub invariant-loop-line : goal.invariant-loop-line

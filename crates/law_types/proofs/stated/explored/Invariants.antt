@@ -1,6 +1,6 @@
 use Rattle.std.proofs.Common.{◌≡◌, ◌++◌, drop}
-use Rattle.law_types.specs.Declarations.{gathered}
-use Rattle.law_types.specs.Stated.{explored_of}
+use Rattle.law_typing.specs.Declarations.{gathered}
+use Rattle.law_typing.specs.Stated.{explored_of}
 use Rattle.law_types.proofs.stated.explored.Given as goal
 
 abbrev pub invariant-loop-line : goal.invariant-loop-line

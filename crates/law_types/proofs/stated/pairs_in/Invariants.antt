@@ -1,5 +1,5 @@
 use Rattle.std.proofs.Common.{◌≡◌, drop}
-use Rattle.law_types.specs.Stated.{pairs_in}
+use Rattle.law_typing.specs.Stated.{pairs_in}
 use Rattle.law_types.proofs.stated.pairs_in.Given as goal
 
 abbrev pub invariant-loop-line : goal.invariant-loop-line

@@ -1,5 +1,5 @@
 use Rattle.std.proofs.Common.{◌≡◌, ◌++◌, drop}
-use Rattle.law_types.specs.Stated.{stated_values}
+use Rattle.law_typing.specs.Stated.{stated_values}
 use Rattle.law_types.proofs.stated.pool.Given as goal
 
 abbrev pub invariant-loop-line : goal.invariant-loop-line

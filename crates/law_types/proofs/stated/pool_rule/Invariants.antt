@@ -1,5 +1,5 @@
 use Rattle.std.proofs.Common.{◌≡◌, drop}
-use Rattle.law_types.specs.Stated.{stated_rule}
+use Rattle.law_typing.specs.Stated.{stated_rule}
 use Rattle.law_types.proofs.stated.pool_rule.Given as goal
 
 abbrev pub invariant-loop-at : goal.invariant-loop-at

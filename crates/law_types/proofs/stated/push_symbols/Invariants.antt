@@ -1,5 +1,5 @@
 use Rattle.std.proofs.Common.{◌≡◌, ◌++◌, take, map}
-use Rattle.law_types.specs.Stated.{symbol_id}
+use Rattle.law_typing.specs.Stated.{symbol_id}
 use Rattle.law_types.proofs.stated.push_symbols.Given as goal
 
 abbrev pub invariant-loop-name : goal.invariant-loop-name

@@ -1,5 +1,5 @@
 use Rattle.std.proofs.Common.{◌≡◌, take, map}
-use Rattle.law_types.specs.Stated.{short}
+use Rattle.law_typing.specs.Stated.{short}
 use Rattle.law_types.proofs.stated.shorts.Given as goal
 
 abbrev pub invariant-loop-n : goal.invariant-loop-n

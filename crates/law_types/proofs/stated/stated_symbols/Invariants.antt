@@ -1,6 +1,6 @@
 use Rattle.std.proofs.Common.{◌≡◌, ◌+◌, ◌++◌, drop, length}
-use Rattle.law_types.specs.Declarations.{sort_names}
-use Rattle.law_types.specs.Stated.{stated_symbols}
+use Rattle.law_typing.specs.Declarations.{sort_names}
+use Rattle.law_typing.specs.Stated.{stated_symbols}
 use Rattle.law_types.proofs.stated.stated_symbols.Given as goal
 
 abbrev pub invariant-loop-at : goal.invariant-loop-at

@@ -1,5 +1,5 @@
 use Rattle.std.proofs.Common.{◌≡◌, take, map}
-use Rattle.law_types.specs.Stated.{stated_tree}
+use Rattle.law_typing.specs.Stated.{stated_tree}
 use Rattle.law_types.proofs.stated.values.Given as goal
 
 abbrev pub invariant-loop-term : goal.invariant-loop-term

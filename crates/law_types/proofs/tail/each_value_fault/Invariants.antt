@@ -1,5 +1,5 @@
 use Rattle.std.proofs.Common.{◌≡◌, drop}
-use Rattle.law_types.specs.LineFaults.{each_value_fault}
+use Rattle.law_typing.specs.LineFaults.{each_value_fault}
 use Rattle.law_types.proofs.tail.each_value_fault.Given as goal
 
 abbrev pub invariant-loop-value : goal.invariant-loop-value

@@ -1,5 +1,5 @@
 use Rattle.std.proofs.Common.{◌≡◌, drop, []}
-use Rattle.law_types.specs.LineFaults.{explored_faults}
+use Rattle.law_typing.specs.LineFaults.{explored_faults}
 use Rattle.law_types.proofs.tail.explored_faults.Given as goal
 
 abbrev pub invariant-loop-name : goal.invariant-loop-name

@@ -1,5 +1,5 @@
 use Rattle.std.proofs.Common.{◌≡◌, ◌-◌, length}
-use Rattle.law_types.specs.LineFaults.{some_too_low}
+use Rattle.law_typing.specs.LineFaults.{some_too_low}
 use Rattle.law_types.proofs.tail.some_too_low.Given as goal
 
 abbrev pub invariant-loop-at : goal.invariant-loop-at

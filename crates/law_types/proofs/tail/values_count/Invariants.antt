@@ -1,5 +1,5 @@
 use Rattle.std.proofs.Common.{◌≡◌, ◌+◌, ◌≤◌, drop}
-use Rattle.law_types.specs.LineFaults.{values_count}
+use Rattle.law_typing.specs.LineFaults.{values_count}
 use Rattle.law_types.proofs.tail.values_count.Given as goal
 
 abbrev pub invariant-loop-line : goal.invariant-loop-line

@@ -1,7 +1,7 @@
 use Rattle.std.proofs.Common.{◌≡◌, length, drop, Some, slice_get, sym, ap, ap₂, ◌∙◌, refl, is_some}
 use Rattle.std.proofs.lemmas.List.{drop_all}
 use Rattle.std.proofs.lemmas.Option.{slice_get_read}
-use Rattle.law_types.proofs.TermFacts.{args_first, args_fault, argument_found, argument_passed, spent}
+use Rattle.law_typing.proofs.TermFacts.{args_first, args_fault, argument_found, argument_passed, spent}
 use Rattle.law_types.proofs.terms.+term_fault.Goals as goal
 
 pub returns-then-is_some-2 : goal.returns-then-is_some-2

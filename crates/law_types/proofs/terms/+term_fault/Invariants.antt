@@ -1,5 +1,5 @@
 use Rattle.std.proofs.Common.{◌≡◌, drop}
-use Rattle.law_types.proofs.TermFacts.{args_fault}
+use Rattle.law_typing.proofs.TermFacts.{args_fault}
 use Rattle.law_types.proofs.terms.+term_fault.Given as goal
 
 abbrev pub invariant-loop-at : goal.invariant-loop-at

@@ -1,8 +1,8 @@
 use Rattle.std.proofs.Common.{◌≡◌, ◌∙◌, sym, ap, refl, length, map, subst, slice_get, Some}
 use Rattle.std.proofs.lemmas.Option.{slice_get_read}
 use Rattle.std.proofs.lemmas.List.{take_all}
-use Rattle.law_types.specs.TypedTerm.{tree_of}
-use Rattle.law_types.proofs.TreeOfFacts.{stops, goes_on}
+use Rattle.law_typing.specs.TypedTerm.{tree_of}
+use Rattle.law_typing.proofs.TreeOfFacts.{stops, goes_on}
 use Rattle.law_types.proofs.typing.+tree_of.Goals as goal
 
 pub returns-in-None : goal.returns-in-None

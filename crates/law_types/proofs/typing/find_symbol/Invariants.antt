@@ -1,6 +1,6 @@
 use Rattle.std.proofs.Common.{◌≡◌, drop}
 use Rattle.std.specs.List.{position_from}
-use Rattle.law_types.specs.Names.{same_name, number_of}
+use Rattle.law_typing.specs.Names.{same_name, number_of}
 use Rattle.law_types.proofs.typing.find_symbol.Given as goal
 
 abbrev pub invariant-loop-at : goal.invariant-loop-at

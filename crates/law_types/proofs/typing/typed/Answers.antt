@@ -1,5 +1,5 @@
 use Rattle.std.proofs.Common.{◌∙◌, sym, ap, is_some}
-use Rattle.law_types.proofs.TreeOfFacts.{typed_none, typed_unsorted}
+use Rattle.law_typing.proofs.TreeOfFacts.{typed_none, typed_unsorted}
 use Rattle.law_types.proofs.typing.typed.Goals as goal
 
 pub returns-else-is_some : goal.returns-else-is_some

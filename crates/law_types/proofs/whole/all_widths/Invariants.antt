@@ -1,5 +1,5 @@
 use Rattle.std.proofs.Common.{◌≡◌, ◌++◌, drop}
-use Rattle.law_types.specs.Declarations.{gathered, width_of}
+use Rattle.law_typing.specs.Declarations.{gathered, width_of}
 use Rattle.law_types.proofs.whole.all_widths.Given as goal
 
 abbrev pub invariant-loop-line : goal.invariant-loop-line

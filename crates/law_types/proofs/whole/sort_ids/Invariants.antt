@@ -1,5 +1,5 @@
 use Rattle.std.proofs.Common.{◌≡◌, take, map}
-use Rattle.law_types.specs.Declarations.{sort_id}
+use Rattle.law_typing.specs.Declarations.{sort_id}
 use Rattle.law_types.proofs.whole.sort_ids.Given as goal
 
 abbrev pub invariant-loop-name : goal.invariant-loop-name

@@ -1,5 +1,5 @@
 use Rattle.std.proofs.Common.{◌≡◌, ◌+◌, ◌++◌, drop, length}
-use Rattle.law_types.specs.Declarations.{sort_names, symbols_from}
+use Rattle.law_typing.specs.Declarations.{sort_names, symbols_from}
 use Rattle.law_types.proofs.whole.symbols.Given as goal
 
 abbrev pub invariant-loop-line : goal.invariant-loop-line

@@ -1,5 +1,5 @@
 use Rattle.std.proofs.Common.{◌≡◌, drop}
-use Rattle.law_types.specs.Declarations.{vars_in}
+use Rattle.law_typing.specs.Declarations.{vars_in}
 use Rattle.law_types.proofs.whole.vars_in.Given as goal
 
 abbrev pub invariant-loop-line : goal.invariant-loop-line

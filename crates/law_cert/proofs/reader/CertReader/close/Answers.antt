@@ -1,5 +1,5 @@
 use Rattle.std.proofs.Common.{rules}
-use Rattle.law_cert.proofs.Refusals.{err_to, none_to, some_to}
+use Rattle.law_cert.proofs.PhaseFacts.{err_to, none_to, some_to}
 use Rattle.law_cert.proofs.reader.CertReader.close.Goals.{in-Err, in-Ok-None, in-Ok-Some}
 use Rattle.law_cert.proofs.reader.CertReader.close.Goals as goal
 

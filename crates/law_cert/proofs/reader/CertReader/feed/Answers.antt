@@ -1,6 +1,6 @@
 use Rattle.std.proofs.Common.{arith}
-use Rattle.law_cert.specs.Readers.{IsFed, IsStopped}
-use Rattle.law_cert.proofs.Refusals.{feed_stops, passed_on}
+use Rattle.law_cert_text.specs.Readers.{IsFed, IsStopped}
+use Rattle.law_cert_text.proofs.Refusals.{feed_stops, passed_on}
 use Rattle.law_cert.proofs.reader.CertReader.feed.Goals as goal
 
 pub returns-in_err-take : goal.returns-in_err-take

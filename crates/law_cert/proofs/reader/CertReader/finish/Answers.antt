@@ -1,8 +1,7 @@
 use Rattle.std.proofs.Common.{rules, IfOk, IfErr, subst, sym, arith}
-use Rattle.law_cert.specs.declared.error.CertErr.TheVariants as error
-use Rattle.law_cert.specs.Readers.{IsOpen, IsWhole, NotWhole}
-use Rattle.law_cert.proofs.BodyText.{finish_ok}
-use Rattle.law_cert.proofs.Refusals.{finish_err, finish_open}
+use Rattle.law_cert_text.specs.declared.error.CertErr.TheVariants as error
+use Rattle.law_cert_text.specs.Readers.{IsOpen, IsWhole, NotWhole}
+use Rattle.law_cert.proofs.PhaseFacts.{finish_err, finish_ok, finish_open}
 use Rattle.law_cert.proofs.reader.CertReader.finish.Goals as goal
 
 pub returns-then-len-eq0 : goal.returns-then-len-eq0

@@ -1,8 +1,8 @@
 use Rattle.std.proofs.Common.{subst}
-use Rattle.law_read.specs.Texts.{IsUnbroken}
-use Rattle.law_cert.specs.Readings.{HasReading}
-use Rattle.law_cert.specs.Readers.{IsOpen}
-use Rattle.law_cert.proofs.Completions.{phase_reads}
+use Rattle.law_lines.specs.Texts.{IsUnbroken}
+use Rattle.law_cert_text.specs.Readings.{HasReading}
+use Rattle.law_cert_text.specs.Readers.{IsOpen}
+use Rattle.law_cert.proofs.PhaseFacts.{phase_reads}
 use Rattle.law_cert.proofs.reader.CertReader.reads.Goals as goal
 
 pub returns : goal.returns

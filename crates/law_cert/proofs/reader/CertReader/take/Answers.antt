@@ -1,5 +1,5 @@
 use Rattle.std.proofs.Common.{rules}
-use Rattle.law_cert.proofs.Refusals.{closed_stops}
+use Rattle.law_cert_text.proofs.Refusals.{closed_stops}
 use Rattle.law_cert.proofs.reader.CertReader.take.Goals as goal
 
 pub returns-then-byte-eq10 : goal.returns-then-byte-eq10

@@ -1,5 +1,5 @@
 use Rattle.std.proofs.Common.{◌≡◌, map, take, Some}
-use Rattle.law_types.specs.TypedTerm.{tree_of}
+use Rattle.law_typing.specs.TypedTerm.{tree_of}
 use Rattle.law_check.proofs.names.Names.+tree.Given as goal
 
 abbrev pub invariant-loop-arg : goal.invariant-loop-arg

@@ -1,5 +1,5 @@
 use Rattle.std.proofs.Common.{◌≡◌, take, map}
-use Rattle.law_valid.specs.Named.{bind_named}
+use Rattle.law_named.specs.Named.{bind_named}
 use Rattle.law_check.proofs.names.Names.binds.Given as goal
 
 abbrev pub invariant-loop-bind : goal.invariant-loop-bind

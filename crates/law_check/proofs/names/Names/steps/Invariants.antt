@@ -1,5 +1,5 @@
 use Rattle.std.proofs.Common.{◌≡◌, take, map}
-use Rattle.law_valid.specs.Named.{step_named}
+use Rattle.law_named.specs.Named.{step_named}
 use Rattle.law_check.proofs.names.Names.steps.Given as goal
 
 abbrev pub invariant-loop-step : goal.invariant-loop-step

@@ -1,7 +1,7 @@
 use Rattle.std.proofs.Common.{rules, subst}
 use Rattle.std.specs.Prelude.{Some}
-use Rattle.law_read.specs.Progress.{Added, Progress, RefusedAt}
-use Rattle.law_read.proofs.Grown.{added, grown, no_reading, refused_now}
+use Rattle.law_places.specs.Progress.{Added, Progress, RefusedAt}
+use Rattle.law_places.proofs.Grown.{added, grown, no_reading, refused_now}
 use Rattle.law_read.proofs.sig_lines.SigLines.add.Goals as goal
 
 pub invariant_of-self : goal.invariant_of-self

@@ -1,6 +1,6 @@
 use Rattle.std.proofs.Common.{rules, sym, subst, ◌∙◌}
-use Rattle.law_read.specs.Progress.{Finished}
-use Rattle.law_read.proofs.Grown.{finished, whole}
+use Rattle.law_places.specs.Progress.{Finished}
+use Rattle.law_places.proofs.Grown.{finished, whole}
 use Rattle.law_read.proofs.sig_lines.SigLines.finish.Goals as goal
 
 pub build-requires : goal.build-requires

@@ -1,0 +1,29 @@
+//! Worked examples over the public calls of all crates, in tables, with values from outside. Nothing stands on this crate.
+#![tactic(auto)]
+
+#[cfg(test)]
+mod certificates;
+#[cfg(test)]
+mod check;
+#[cfg(test)]
+mod explore;
+#[cfg(test)]
+mod plain;
+#[cfg(test)]
+mod pools;
+#[cfg(test)]
+mod program;
+#[cfg(test)]
+mod run;
+#[cfg(test)]
+mod samples;
+#[cfg(test)]
+mod signatures;
+#[cfg(test)]
+mod streams;
+#[cfg(test)]
+mod types;
+#[cfg(test)]
+mod values;
+#[cfg(test)]
+mod words;

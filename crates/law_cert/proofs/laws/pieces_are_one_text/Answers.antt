@@ -1,5 +1,0 @@
-use Rattle.law_cert.proofs.Joined.{ends_as_one, fed_reads, one_text}
-use Rattle.law_cert.proofs.laws.pieces_are_one_text.Goals as goal
-
-pub returns : goal.returns
-returns c = record { joined = one_text; fed = fed_reads; ended = ends_as_one }

@@ -1,0 +1,15 @@
+pub mod ArgFacts
+pub mod BodyText
+pub mod Completions
+pub mod DraftFacts
+pub mod FirstFaults
+pub mod Joined
+pub mod NoneSpelled
+pub mod OneCert
+pub mod OneCertLine
+pub mod PartFacts
+pub mod Refusals
+pub mod RowFacts
+pub mod RunFacts
+pub mod Stuck
+pub mod TailFacts

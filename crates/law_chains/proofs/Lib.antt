@@ -1,0 +1,5 @@
+pub mod Replacing
+pub mod Stepping
+pub mod Binding
+pub mod Counted
+pub mod Comparing

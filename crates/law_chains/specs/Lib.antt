@@ -1,0 +1,4 @@
+pub mod Counting
+pub mod Binds
+pub mod Replaying
+pub mod Chains

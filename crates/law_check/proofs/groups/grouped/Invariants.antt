@@ -1,7 +1,0 @@
-use Rattle.std.proofs.Common.{take}
-use Rattle.indexmap.specs.IndexMap.{get}
-use Rattle.law_check.specs.Planted.{AreGroups, same_number}
-use Rattle.law_check.proofs.groups.grouped.Given as goal
-
-abbrev pub invariant-loop-at : goal.invariant-loop-at
-invariant-loop-at l = AreGroups l.spreads (take l.at l.lives) (get same_number l.groups)

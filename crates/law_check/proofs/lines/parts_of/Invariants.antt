@@ -1,6 +1,0 @@
-use Rattle.std.proofs.Common.{◌≡◌, ◌++◌, drop}
-use Rattle.law_check.specs.Lines.{parts_of}
-use Rattle.law_check.proofs.lines.parts_of.Given as goal
-
-abbrev pub invariant-loop-line : goal.invariant-loop-line
-invariant-loop-line l = l.found ++ parts_of l.part (drop l.line-index l.lines) ≡ parts_of l.part l.lines

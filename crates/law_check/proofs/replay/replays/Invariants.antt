@@ -1,8 +1,0 @@
-use Rattle.std.proofs.Common.{◌↔◌, drop}
-use Rattle.law_sig.specs.declared.tree.Tree.{Tree}
-use Rattle.law_valid.specs.Chains.{Replays}
-use Rattle.law_check.specs.Terms.{meaning}
-use Rattle.law_check.proofs.replay.replays.Given as goal
-
-abbrev pub invariant-loop-next : goal.invariant-loop-next
-invariant-loop-next l = (u : Tree) → Replays l.sig l.known (drop l.next-index l.steps) (meaning l.current) u ↔ Replays l.sig l.known l.steps l.from u

@@ -1,6 +1,0 @@
-use Rattle.std.proofs.Common.{◌-◌, sym, ◌∙◌, arith}
-use Rattle.law_check.proofs.Binding.{rises_end}
-use Rattle.law_check.proofs.replay.rises.Goals as goal
-
-pub returns : goal.returns
-returns c = sym (rises_end c.args.binds.now (c.loop-at.at - 1) (omega (arith, c.loop-at-test.false, c.loop-at.auto.at))) ∙ c.loop-at.invariant

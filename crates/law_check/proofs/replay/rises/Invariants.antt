@@ -1,6 +1,0 @@
-use Rattle.std.proofs.Common.{◌≡◌, ◌-◌, drop}
-use Rattle.law_check.specs.Binds.{rises}
-use Rattle.law_check.proofs.replay.rises.Given as goal
-
-abbrev pub invariant-loop-at : goal.invariant-loop-at
-invariant-loop-at l = rises (drop (l.at - 1) l.binds) ≡ rises l.binds

@@ -1,7 +1,0 @@
-use Rattle.std.proofs.Common.{◌≡◌, take, map}
-use Rattle.law_sig.specs.Trees.{substituted}
-use Rattle.law_valid.specs.Chains.{bound_in}
-use Rattle.law_check.proofs.term.+is_instance.Given as goal
-
-abbrev pub invariant-loop-at : goal.invariant-loop-at
-invariant-loop-at l = take l.at l.others ≡ map (substituted (bound_in l.binds)) (take l.at l.arg-items)

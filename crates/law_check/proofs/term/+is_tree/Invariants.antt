@@ -1,6 +1,0 @@
-use Rattle.std.proofs.Common.{◌≡◌, take, map}
-use Rattle.law_check.specs.Terms.{meaning}
-use Rattle.law_check.proofs.term.+is_tree.Given as goal
-
-abbrev pub invariant-loop-at : goal.invariant-loop-at
-invariant-loop-at l = map meaning (take l.at l.args) ≡ take l.at l.part-items

@@ -1,6 +1,0 @@
-use Rattle.std.proofs.Common.{◌≡◌, drop}
-use Rattle.law_valid.specs.Chains.{bound_in}
-use Rattle.law_check.proofs.term.bound.Given as goal
-
-abbrev pub invariant-loop-bind : goal.invariant-loop-bind
-invariant-loop-bind l = bound_in (drop l.bind-index l.binds) l.sort l.index ≡ bound_in l.binds l.sort l.index

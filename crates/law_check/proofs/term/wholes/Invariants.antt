@@ -1,6 +1,0 @@
-use Rattle.std.proofs.Common.{◌≡◌, take, map}
-use Rattle.law_check.specs.Terms.{meaning}
-use Rattle.law_check.proofs.term.wholes.Given as goal
-
-abbrev pub invariant-loop-tree : goal.invariant-loop-tree
-invariant-loop-tree l = map meaning l.items.items ≡ take l.tree-index l.trees

@@ -1,6 +1,0 @@
-use Rattle.std.proofs.Common.{◌≡◌, take, map}
-use Rattle.law_sig.specs.Trees.{schema_of}
-use Rattle.law_check.proofs.terms.+schema.Given as goal
-
-abbrev pub invariant-loop-arg : goal.invariant-loop-arg
-invariant-loop-arg l = l.made ≡ map schema_of (take l.arg-index l.arg-items)

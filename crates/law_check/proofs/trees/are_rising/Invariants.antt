@@ -1,9 +1,0 @@
-use Rattle.std.proofs.Common.{◌≤◌}
-use Rattle.law_check.proofs.Treeing.{RisingTo}
-use Rattle.law_check.proofs.trees.are_rising.Given as goal
-
-abbrev pub invariant-loop-at : goal.invariant-loop-at
-invariant-loop-at l = record {
-  some : 1 ≤ l.at;
-  to : RisingTo l.numbers l.at;
-}

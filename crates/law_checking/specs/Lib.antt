@@ -1,0 +1,9 @@
+pub mod NameTables
+pub mod Rules
+pub mod Parts
+pub mod Lines
+pub mod Once
+pub mod Planted
+pub mod Splitting
+pub mod Steps
+pub mod Verdicts

@@ -1,0 +1,4 @@
+pub mod Keeping
+pub mod NextKept
+pub mod OwnTests
+pub mod Standing

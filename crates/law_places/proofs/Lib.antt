@@ -1,0 +1,16 @@
+pub mod Begins
+pub mod Closes
+pub mod FirstFaults
+pub mod Found
+pub mod FreeLines
+pub mod Freed
+pub mod Grown
+pub mod LineSteps
+pub mod LinesFound
+pub mod PlacesFound
+pub mod RowNames
+pub mod RowWhole
+pub mod Said
+pub mod SegmentTexts
+pub mod SomeFirst
+pub mod TextReads

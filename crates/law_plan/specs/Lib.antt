@@ -1,0 +1,14 @@
+pub mod Kills
+pub mod Plan
+pub mod Search
+pub mod Central
+pub mod Existence
+pub mod Blocks
+pub mod Classes
+pub mod Certified
+pub mod Goals
+pub mod Filed
+pub mod Owed
+pub mod Course
+pub mod Trees
+pub mod Written

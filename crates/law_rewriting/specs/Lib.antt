@@ -1,0 +1,12 @@
+pub mod Heads
+pub mod Unifiers
+pub mod Steps
+pub mod Roots
+pub mod HeadChains
+pub mod Pairs
+pub mod Completion
+pub mod StepLaws
+pub mod PairLaws
+pub mod CompletionLaws
+pub mod UnifyingState
+pub mod MatchingState

@@ -1,0 +1,11 @@
+pub mod ListFacts
+pub mod EdgeFacts
+pub mod Standing
+pub mod Growing
+pub mod Adding
+pub mod Numbers
+pub mod Placing
+pub mod Comparing
+pub mod Keeping
+pub mod Finding
+pub mod Listing

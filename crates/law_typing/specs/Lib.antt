@@ -1,0 +1,10 @@
+pub mod Declarations
+pub mod Laws
+pub mod LineFaults
+pub mod Names
+pub mod Naming
+pub mod Stated
+pub mod Table
+pub mod TermFaults
+pub mod Typed
+pub mod TypedTerm
