@@ -5,7 +5,7 @@ use crate::samples::{
 };
 use law_cert::{CertErr, CertReader, read_cert, write_cert};
 use law_sig::Text;
-use std::alloc::Global;
+use std::alloc::{AllocError, Global};
 use std::test::Fail;
 
 /// What is spelled of a certificate that is read whole.
@@ -132,19 +132,23 @@ const TREES: &[Row] = &[
     ("leaf 3\nend\n", "leaf 3\nend\ne", 43),
 ];
 
+/// The place of the first row, from 0, whose line isn't the one that is refused.
+fn first_other(alloc: Global, whole: &str, rows: &[Row]) -> Result<Option<usize>, AllocError> {
+    for (at, (from, to, line)) in rows.iter().enumerate() {
+        let text = whole.replacen(alloc, from, to, 1)?;
+        if refused_line(alloc, text.as_bytes()) != Some(*line) {
+            return Ok(Some(at));
+        }
+    }
+    Ok(None)
+}
+
 #[test]
 fn damaged_lines(rt: HostRuntime) -> Result<(), Fail> {
     let whole = text_of(rt.alloc(), AND_CERT)?;
-    for table in [HEADS, ENTRIES, TREES] {
-        for (from, to, line) in table {
-            let text = whole.replacen(rt.alloc(), from, to, 1)?;
-            assert_eq!(rt;
-                refused_line(rt.alloc(), text.as_bytes()),
-                Some(*line),
-                "{to}"
-            );
-        }
-    }
+    assert_eq!(rt; first_other(rt.alloc(), whole.as_str(), HEADS)?, None);
+    assert_eq!(rt; first_other(rt.alloc(), whole.as_str(), ENTRIES)?, None);
+    assert_eq!(rt; first_other(rt.alloc(), whole.as_str(), TREES)?, None);
     for (text, line) in [("", 1), ("certificate 1\n", 2)] {
         assert_eq!(rt;
             refused_line(rt.alloc(), text.as_bytes()),

@@ -190,16 +190,20 @@ end
 /// The pools of these.
 const NONE: &str = "pool\nvalues Nat Z\nvalues List Nil\n";
 
-#[test]
-fn law_lists(rt: HostRuntime) -> Result<(), Fail> {
-    for table in [LAWS, SEEDS] {
-        for (signature, change, pools, laws) in table {
-            assert!(rt;
-                lists(rt.alloc(), signature, *change, pools, laws)?,
-                "{pools}{laws}"
-            );
+/// The place of the first of these, from 0, that isn't printed.
+fn first_unlisted(alloc: Global, table: &[List]) -> Result<Option<usize>, AllocError> {
+    for (at, (signature, change, pools, laws)) in table.iter().enumerate() {
+        if !lists(alloc, signature, *change, pools, laws)? {
+            return Ok(Some(at));
         }
     }
+    Ok(None)
+}
+
+#[test]
+fn law_lists(rt: HostRuntime) -> Result<(), Fail> {
+    assert_eq!(rt; first_unlisted(rt.alloc(), LAWS)?, None);
+    assert_eq!(rt; first_unlisted(rt.alloc(), SEEDS)?, None);
     Ok(())
 }
 
@@ -375,25 +379,23 @@ const LIMITS: &[Row] = &[
     (ROTATIONS, "size 3", "size 32", "limit Terms\n"),
 ];
 
-/// The code that the program ends with.
-const REFUSALS: &[(u8, &[Row])] = &[
-    (3, UNREAD),
-    (3, UNSTATED),
-    (5, OVER),
-    (6, BACKGROUND),
-    (4, LIMITS),
-];
+/// The place of the first row, from 0, to which the answer is another one than its line with this code.
+fn first_other(alloc: Global, code: u8, rows: &[Row]) -> Result<Option<usize>, AllocError> {
+    for (at, (text, from, to, line)) in rows.iter().enumerate() {
+        if !answers(alloc, "plain", text, (from, to), code, line)? {
+            return Ok(Some(at));
+        }
+    }
+    Ok(None)
+}
 
 #[test]
 fn refusals(rt: HostRuntime) -> Result<(), Fail> {
-    for (code, rows) in REFUSALS {
-        for (text, from, to, line) in *rows {
-            assert!(rt;
-                answers(rt.alloc(), "plain", text, (from, to), *code, line)?,
-                "{to}, {line}"
-            );
-        }
-    }
+    assert_eq!(rt; first_other(rt.alloc(), 3, UNREAD)?, None);
+    assert_eq!(rt; first_other(rt.alloc(), 3, UNSTATED)?, None);
+    assert_eq!(rt; first_other(rt.alloc(), 5, OVER)?, None);
+    assert_eq!(rt; first_other(rt.alloc(), 6, BACKGROUND)?, None);
+    assert_eq!(rt; first_other(rt.alloc(), 4, LIMITS)?, None);
     Ok(())
 }
 
