@@ -53,22 +53,26 @@ fn two_zeros(sig: &Sig, bank: &mut ValueBank, memo: &mut Memo) -> Result<Option<
 
 /// Whether the sum costs three when it is made and when it is found, is over within two steps both times, and costs three again
 /// once another one took its place.
-fn costs_three(alloc: Global, sig: &Sig) -> bool {
+fn costs_three(alloc: Global, sig: &Sig) -> Result<bool, EvalErr> {
     let mut bank = ValueBank::new(alloc);
-    let Ok(mut memo) = Memo::new(alloc, 1) else {
-        return false;
-    };
-    one_and_zero(sig, &mut bank, &mut memo, 2) == Err(EvalErr::Over)
-        && one_and_zero(sig, &mut bank, &mut memo, 3) == Ok(Some(3))
-        && one_and_zero(sig, &mut bank, &mut memo, 3) == Ok(Some(3))
-        && one_and_zero(sig, &mut bank, &mut memo, 2) == Err(EvalErr::Over)
-        && two_zeros(sig, &mut bank, &mut memo) == Ok(Some(1))
-        && one_and_zero(sig, &mut bank, &mut memo, 3) == Ok(Some(3))
+    let mut memo = Memo::new(alloc, 1)?;
+    let made_over = one_and_zero(sig, &mut bank, &mut memo, 2);
+    let made = one_and_zero(sig, &mut bank, &mut memo, 3);
+    let found = one_and_zero(sig, &mut bank, &mut memo, 3);
+    let found_over = one_and_zero(sig, &mut bank, &mut memo, 2);
+    let other = two_zeros(sig, &mut bank, &mut memo)?;
+    let again = one_and_zero(sig, &mut bank, &mut memo, 3)?;
+    Ok(made_over == Err(EvalErr::Over)
+        && made == Ok(Some(3))
+        && found == Ok(Some(3))
+        && found_over == Err(EvalErr::Over)
+        && other == Some(1)
+        && again == Some(3))
 }
 
 fn sums_cost_three(alloc: Global) -> bool {
     match signature(alloc, PLUS) {
-        Some(sig) => costs_three(alloc, &sig),
+        Some(sig) => costs_three(alloc, &sig) == Ok(true),
         None => false,
     }
 }

@@ -132,6 +132,7 @@ impl Ask for Hundreds {
 }
 
 /// The numbers from 0, so many.
+#[tactic(auto, using(crate::proofs::CountingFacts::one_more))]
 fn numbers(alloc: Global, count: u64) -> Result<Seq<u64>, NoMemory>
     ensures rising { IfOk result (λ tests. Rising (λ n m. n < m) tests) }
     ensures counting { IfOk result (λ tests. IsCounting tests) }

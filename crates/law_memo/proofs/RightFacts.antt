@@ -18,6 +18,9 @@ use Rattle.law_memo.specs.declared.memo.Call.{Call}
 use Rattle.law_memo.specs.declared.memo.Known.{Known}
 use Rattle.law_memo.specs.Right.{IsRight, AreRight}
 
+pub none_wrong : (parts : SigParts) (bank : List Tree) → AreRight parts bank []
+none_wrong parts bank = record { each = λ e m. absurd (omega (arith, m.1)) }
+
 -- As the bank grows
 
 id_stays : (old new : List Tree) (v : ValueId) → Grows old new → IsOf old v → IsOf new v × (tree_of new v ≡ tree_of old v)
@@ -43,7 +46,7 @@ stays parts old new f args known grows right =
     }
 
 pub all_stay : (entries : List (Call × Known)) (parts : SigParts) (old new : List Tree) → Grows old new → AreRight parts old entries → AreRight parts new entries
-all_stay entries parts old new grows right = λ e m. stays parts old new e.0.sym e.0.args.items e.1 grows (right e m)
+all_stay entries parts old new grows right = record { each = λ e m. stays parts old new e.0.sym e.0.args.items e.1 grows (right.each e m) }
 
 -- Calls
 
@@ -81,24 +84,26 @@ found call cache memo (Some known) view e = λ parts bank right.
     let (kept, contains, is) = Contains-lookup (same_call call) cache.entries known (sym e) in
     let (symbols, args) = same call kept is in
     subst₂ (λ f ids. IsRight parts bank f ids known) (sym symbols) (sym args)
-    (subst (λ (m : LruCache Call Known). AreRight parts bank m.entries) (sym view) right (kept, known) contains)
+    ((subst (λ (m : LruCache Call Known). AreRight parts bank m.entries) (sym view) right).each (kept, known) contains)
 
 pub after_get : (call : Call) (cache memo now : LruCache Call Known) → cache ≡ memo
     → now ≡ record { entries = promoted (same_call call) cache.entries; cap = cache.cap } → (parts : SigParts) (bank : List Tree)
     → AreRight parts bank memo.entries → AreRight parts bank now.entries
-after_get call cache memo now view is parts bank right = λ e m.
-    subst (λ (k : LruCache Call Known). AreRight parts bank k.entries) (sym view) right e
-    (Contains-promoted (same_call call) cache.entries e (subst (λ (k : LruCache Call Known). Contains k.entries e) is m))
+after_get call cache memo now view is parts bank right =
+    let before = subst (λ (k : LruCache Call Known). AreRight parts bank k.entries) (sym view) right in
+    record { each = λ e m. before.each e (Contains-promoted (same_call call) cache.entries e (subst (λ (k : LruCache Call Known). Contains k.entries e) is m)) }
 
 put : (cache : LruCache Call Known) (call : Call) (known : Known) (parts : SigParts) (bank : List Tree)
     → AreRight parts bank cache.entries → IsRight parts bank call.sym call.args.items known → AreRight parts bank (put_entries same_call cache call known)
-put cache call known parts bank right new = λ e m. ⊎_elim
-    (λ h. right e h)
-    (λ h. subst (IsRight parts bank e.0.sym e.0.args.items) (sym h.0) (⊎_elim
-    (λ is. subst (λ (k : Call). IsRight parts bank k.sym k.args.items known) (sym is) new)
-    (λ kept. let (symbols, args) = same call e.0 kept.2 in subst₂ (λ f ids. IsRight parts bank f ids known) symbols args new)
-    h.1))
-    (Contains-put_entries same_call cache call known e m)
+put cache call known parts bank right new = record {
+  each = λ e m. ⊎_elim
+      (λ h. right.each e h)
+      (λ h. subst (IsRight parts bank e.0.sym e.0.args.items) (sym h.0) (⊎_elim
+      (λ is. subst (λ (k : Call). IsRight parts bank k.sym k.args.items known) (sym is) new)
+      (λ kept. let (symbols, args) = same call e.0 kept.2 in subst₂ (λ f ids. IsRight parts bank f ids known) symbols args new)
+      h.1))
+      (Contains-put_entries same_call cache call known e m);
+}
 
 pub after_put : {T E : Type 0} (cache memo now : LruCache Call Known) (call : Call) (known : Known) (r : Result T E) → cache ≡ memo
     → OnOk r (now ≡ record { entries = put_entries same_call cache call known; cap = cache.cap }) → OnErr r (now ≡ cache) → (parts : SigParts) (bank : List Tree)

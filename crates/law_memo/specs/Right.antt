@@ -15,5 +15,6 @@ pub record IsRight (parts : SigParts) (bank : List Tree) (f : SymId) (args : Lis
   pub value_held : IsOf bank known.value
   pub applies : Applies parts f (trees_of bank args) (tree_of bank known.value) known.cost
 
-abbrev pub AreRight : SigParts → List Tree → List (Call × Known) → Type 0
-AreRight parts bank entries = (e : Call × Known) → Contains entries e → IsRight parts bank e.0.sym e.0.args.items e.1
+-- and so is each of these entries
+pub record AreRight (parts : SigParts) (bank : List Tree) (entries : List (Call × Known)) : Type 0 where
+  pub each : (e : Call × Known) → Contains entries e → IsRight parts bank e.0.sym e.0.args.items e.1

@@ -48,6 +48,7 @@ impl Model for Memo {
 
 impl Memo {
     /// A memo without entries, which keeps at most `capacity` of them. It takes memory for an entry only when there is one.
+    #[tactic(auto, using(crate::proofs::RightFacts::none_wrong))]
     pub fn new(alloc: Global, capacity: usize) -> Result<Memo, NoMemory>
         requires { 1 ≤ capacity }
         ensures empty { IfOk result (λ memo. memo ≡ lru_cache [] capacity) }
@@ -89,6 +90,7 @@ impl Memo {
         let _ = self.cache.put(call, known);
     }
 
+    #[tactic(auto, using(crate::proofs::RightFacts::all_stay))]
     /// The value and the cost of a symbol applied to these values of the bank, exactly as `law_eval::apply` gives them, whether
     /// the memo has them or not: what it has costs what it cost when it was made. The entries have to be right for the signature
     /// and the bank, and are so afterwards, also where there is no answer.

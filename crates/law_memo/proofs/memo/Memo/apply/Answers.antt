@@ -10,9 +10,6 @@ returns-then-known-budget-clause-over c = λ _.
     hit_over c.args.sig.now c.args.bank.now c.args.sym c.in_ok-from_slice.field-0.items c.args.args.now c.in-Some.known c.args.budget c.in_ok-from_slice.ensures.items
     (c.in-Some.ensures.found c.args.sig.now c.args.bank.now c.requires.right) (search rules)
 
-pub returns-then-known-budget-clause-right : goal.returns-then-known-budget-clause-right
-returns-then-known-budget-clause-right c = c.known.ensures.right c.args.sig.now c.args.bank.now c.requires.right
-
 pub returns-in-Some-clause-id : goal.returns-in-Some-clause-id
 returns-in-Some-clause-id c = (c.in-Some.ensures.found c.args.sig.now c.args.bank.now c.requires.right).value_held
 
@@ -20,14 +17,6 @@ pub returns-in-Some-clause-value : goal.returns-in-Some-clause-value
 returns-in-Some-clause-value c =
     hit c.args.sig.now c.args.bank.now c.args.sym c.in_ok-from_slice.field-0.items c.args.args.now c.in-Some.known c.args.budget c.in_ok-from_slice.ensures.items
     (c.in-Some.ensures.found c.args.sig.now c.args.bank.now c.requires.right) (search rules)
-
-pub returns-in-Some-clause-right : goal.returns-in-Some-clause-right
-returns-in-Some-clause-right c = c.known.ensures.right c.args.sig.now c.args.bank.now c.requires.right
-
-pub returns-in_err-value-clause-right : goal.returns-in_err-value-clause-right
-returns-in_err-value-clause-right c =
-    all_stay c.known.new.self.entries c.args.sig.now c.args.bank.now c.apply.new.bank c.apply.ensures.grows
-    (c.known.ensures.right c.args.sig.now c.args.bank.now c.requires.right)
 
 pub returns-clause-right : goal.returns-clause-right
 returns-clause-right c =
