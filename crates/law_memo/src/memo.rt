@@ -90,10 +90,10 @@ impl Memo {
         let _ = self.cache.put(call, known);
     }
 
-    #[tactic(auto, using(crate::proofs::RightFacts::all_stay))]
     /// The value and the cost of a symbol applied to these values of the bank, exactly as `law_eval::apply` gives them, whether
     /// the memo has them or not: what it has costs what it cost when it was made. The entries have to be right for the signature
     /// and the bank, and are so afterwards, also where there is no answer.
+    #[tactic(auto, using(crate::proofs::RightFacts::all_stay))]
     pub fn apply(
         &mut self,
         sig: &Sig,
