@@ -26,11 +26,11 @@ place k n h = grind arith
 
 pub one_more : (tests : List ℕ) (n : ℕ) → AreNumbers tests n → AreNumbers (tests ++ n ∷ []) (n + 1)
 one_more tests n are = record {
-    long = omega (arith, length-append tests (n ∷ []), are.long);
-    counting = λ k h. at k (place k n (omega (arith, length-append tests (n ∷ []), are.long)));
-    rising = rising_both (λ k m. k < m) tests (n ∷ []) are.rising (tt, tt) (across tests n are.below);
-    below = each_both (λ k. k < n + 1) tests (n ∷ []) (still_below tests n are.below) (omega arith, tt);
-  }
+  long = omega (arith, length-append tests (n ∷ []), are.long);
+  counting = λ k h. at k (place k n (omega (arith, length-append tests (n ∷ []), are.long)));
+  rising = rising_both (λ k m. k < m) tests (n ∷ []) are.rising (tt, tt) (across tests n are.below);
+  below = each_both (λ k. k < n + 1) tests (n ∷ []) (still_below tests n are.below) (omega arith, tt);
+}
   where
     at : (k : ℕ) → (k < n) ⊎ (k ≡ n) → slice_index (tests ++ n ∷ []) k ≡ k
     at k (inl h) = get_or-append tests (n ∷ []) 0 k (omega (arith, are.long)) ∙ are.counting k (omega (arith, are.long))

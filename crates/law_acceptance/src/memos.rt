@@ -62,12 +62,14 @@ fn costs_three(alloc: Global, sig: &Sig) -> Result<bool, EvalErr> {
     let found_over = one_and_zero(sig, &mut bank, &mut memo, 2);
     let other = two_zeros(sig, &mut bank, &mut memo)?;
     let again = one_and_zero(sig, &mut bank, &mut memo, 3)?;
-    Ok(made_over == Err(EvalErr::Over)
-        && made == Ok(Some(3))
-        && found == Ok(Some(3))
-        && found_over == Err(EvalErr::Over)
-        && other == Some(1)
-        && again == Some(3))
+    Ok(
+        made_over == Err(EvalErr::Over)
+            && made == Ok(Some(3))
+            && found == Ok(Some(3))
+            && found_over == Err(EvalErr::Over)
+            && other == Some(1)
+            && again == Some(3),
+    )
 }
 
 fn sums_cost_three(alloc: Global) -> bool {
