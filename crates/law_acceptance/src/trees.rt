@@ -9,11 +9,11 @@ use law_value::ValueId;
 use std::alloc::Global;
 
 /// No fault.
-#[derive(Clone, Copy, Debug)]
+#[derive(Clone, Copy)]
 struct Never;
 
 /// Two truth values, their conjunction, and that of the first with itself, at tests that give all pairs of values.
-#[derive(Debug, Drop)]
+#[derive(Drop)]
 struct Truths {
     asks: u64,
     highest: u64,
@@ -55,7 +55,7 @@ impl Ask for Truths {
 
 /// Numbers, told apart by whether they are above the hundredth part of a test: a hundred tests one after another say the same.
 /// Each of these tests is asked.
-#[derive(Debug, Drop)]
+#[derive(Drop)]
 struct Singly {
     asks: u64,
 }
@@ -87,7 +87,7 @@ impl Ask for Singly {
 }
 
 /// The same numbers, of which one test of each hundred is asked.
-#[derive(Debug, Drop)]
+#[derive(Drop)]
 struct Hundreds {
     asks: u64,
 }
@@ -228,6 +228,28 @@ fn two_items_are_asked_up_to_where_they_differ(rt: HostRuntime) {
 #[test]
 fn equal_items_are_asked_at_all_tests(rt: HostRuntime) {
     assert!(rt; truths_go(rt.alloc(), FOUR, FOUR_LINES, 20, 3));
+}
+
+/// Whether the conjunction of the first with itself is found where the first is, and that of both isn't found.
+fn finds(alloc: Global) -> Result<bool, PlaceErr<Never>> {
+    let Ok(tests) = numbers(alloc, 4) else {
+        return Err(PlaceErr::NoMemory);
+    };
+    let mut tree = SplitTree::new(alloc, tests);
+    let mut ask = Truths {
+        asks: 0,
+        highest: 0,
+    };
+    let _first = tree.place(0, &mut ask)?;
+    let _second = tree.place(1, &mut ask)?;
+    let same = tree.find(3, &mut ask);
+    let other = tree.find(2, &mut ask);
+    Ok(matches!(same, Ok(Some(0))) && matches!(other, Ok(None)))
+}
+
+#[test]
+fn items_are_found_where_they_agree(rt: HostRuntime) {
+    assert!(rt; matches!(finds(rt.alloc()), Ok(true)));
 }
 
 /// Whether numbers go where they should over a thousand tests: asked so often at each test, and so often at one of each hundred.
