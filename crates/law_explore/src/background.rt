@@ -60,7 +60,7 @@ fn check_at(
     }
 }
 
-/// Whether an equation holds at every test.
+/// Whether an equation holds at every test. It is asked at the own tests of its variables alone.
 fn check_equation(
     tester: &Tester,
     bank: &mut ValueBank,
@@ -74,8 +74,12 @@ fn check_equation(
     ensures breaks { IfErr result (IsTold tester.now.sig.now (IsFirstAnswer (Breaks tester.now.sig.now (pools_by tester.now.sig.now) number equation.now) (tests_by tester.now.sig.now))) }
     ensures grows { Grows bank.old bank.new }
 {
-    for test in 0..tester.tests() {
+    let own = tester.own_tests(&equation.left, &equation.right)?;
+    let tests = tester.tests();
+    let mut test = 0;
+    while test < tests {
         check_at(tester, bank, number, equation, test)?;
+        test = own.next(test);
     }
     Ok(())
 }

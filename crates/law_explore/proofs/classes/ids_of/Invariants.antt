@@ -1,6 +1,6 @@
 use Rattle.law_value.specs.Values.{Grows}
 use Rattle.law_explore.specs.Values.{AreIds}
-use Rattle.law_explore.proofs.vectors.ids_of.Given as goal
+use Rattle.law_explore.proofs.classes.ids_of.Given as goal
 
 abbrev pub invariant-loop-test : goal.invariant-loop-test
 invariant-loop-test l = record {
