@@ -4,6 +4,7 @@ use Rattle.std.proofs.Math.Nat.{eq-or-lt_of_le}
 use Rattle.law_sig.specs.Trees.{schema_of}
 use Rattle.law_sig.specs.Tests.{weight}
 use Rattle.law_sig.specs.Order.{Rank, num, row, ranked, rank, explore_rank, IsBefore}
+use Rattle.law_sig.specs.declared.tree.SortId.{SortId}
 use Rattle.law_sig.specs.declared.tree.SymId.{SymId}
 use Rattle.law_sig.specs.declared.tree.Tree.{Tree}
 use Rattle.law_sig.specs.declared.tree.Tree.TheVariants.{Var, App, outs-Var, outs-App}
@@ -13,13 +14,28 @@ use Rattle.law_laws.proofs.ListFacts.{each_map, each_both}
 use Rattle.law_laws.proofs.Ranks.{Below, below_less, less_below, irreflexive}
 use Rattle.law_laws.proofs.Orders.{before_chain}
 use Rattle.law_sig.specs.Expected.{IsAbove, IsFirstAbove, IsSpent}
-use Rattle.law_agenda.specs.Rows.{Lex}
-use Rattle.law_agenda.specs.Stages.{kind, number, kind_in, number_in, AtStage, FromStage, Here, Onward}
+use Rattle.law_listing.specs.Rows.{Lex}
+use Rattle.law_listing.specs.Columns.{IsBelow}
+use Rattle.law_listing.specs.Stages.{kind, number, kind_in, number_in, AtStage, FromStage, Here, Onward}
 
 -- The order K
 
-abbrev pub IsBelow : SigParts → Tree → Tree → Type 0
-IsBelow parts s t = Below (rank parts s) (rank parts t)
+pub sorts_below : (parts : SigParts) (s u : SortId) (i j : ℕ) → s.0 < u.0 → IsBelow parts (Var s i) (Var u j)
+sorts_below parts s u i j less = subst₂ Below (sym (rank-Var parts s i)) (sym (rank-Var parts u j)) (inr (refl, inr (refl, inl less)))
+
+pub indices_below : (parts : SigParts) (s : SortId) (i j : ℕ) → i < j → IsBelow parts (Var s i) (Var s j)
+indices_below parts s i j less = subst₂ Below (sym (rank-Var parts s i)) (sym (rank-Var parts s j)) (inr (refl, inr (refl, inr (refl, less))))
+
+pub variable_below : (parts : SigParts) (s : SortId) (i : ℕ) (f : SymId) (args : List Tree) → weight parts (App f args) ≡ 1
+    → IsBelow parts (Var s i) (App f args)
+variable_below parts s i f args e =
+    let less : 0 < 1 = omega arith in
+    subst₂ Below (sym (rank-Var parts s i)) (sym (rank-App parts f args)) (inr (ap num (sym e), inl less))
+
+pub symbols_below : (parts : SigParts) (f g : SymId) (ss ts : List Tree) → weight parts (App f ss) ≡ weight parts (App g ts) → f.0 < g.0
+    → IsBelow parts (App f ss) (App g ts)
+symbols_below parts f g ss ts e less =
+    subst₂ Below (sym (rank-App parts f ss)) (sym (rank-App parts g ts)) (inr (ap num e, inr (refl, inl less)))
 
 lex_below : (parts : SigParts) (ss ts : List Tree) → Lex (IsBelow parts) ss ts → Below (row (map (rank parts) ss)) (row (map (rank parts) ts))
 lex_below parts [] ts h = absurd h

@@ -2,8 +2,9 @@
 use Rattle.std.proofs.Common.{◌≡◌, ◌≢◌, ℕ, zero, suc, ◌+◌, ◌-◌, ◌<◌, ◌≤◌, ◌⊎◌, inl, inr, Bool, true, false, true≢false, List, [], ◌∷◌, ◌++◌, length, slice_index_or, refl, sym, ap, ap₂, subst, arith}
 use Rattle.std.proofs.Math.Nat.{eq-or-lt_of_le}
 use Rattle.law_sig.specs.Expected.{IsFirstAbove, IsSpent}
-use Rattle.law_agenda.specs.declared.rows.Pick.{Pick}
-use Rattle.law_agenda.specs.Rows.{Lex, IsLower, IsRow, StartsFrom, IsRowFrom, IsFits, AreFits, AreAllFits, NoSum}
+use Rattle.law_listing.specs.declared.pick.Pick.{Pick}
+use Rattle.law_listing.specs.Rows.{Lex}
+use Rattle.law_listing.specs.Picks.{IsLower, IsRow, StartsFrom, IsRowFrom, IsFits, AreFits, AreAllFits, NoSum}
 
 -- below one more
 pub one_more : (P : ℕ → Type 0) (n : ℕ) → ((k : ℕ) → k < n → P k) → P n → (k : ℕ) → k < suc n → P k

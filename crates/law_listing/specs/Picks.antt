@@ -1,12 +1,6 @@
--- Rows of picks: one from the choices at each place, of a weight in all.
+-- Rows of picks: one from the choices at each place, of a weight in all. So a row is told by numbers alone, whatever is picked.
 use Rattle.std.specs.Prelude.{◌≡◌, ℕ, ◌+◌, ◌-◌, ◌<◌, ◌≤◌, ◌⊎◌, List, [], ◌∷◌, slice_index_or, length, Bool, true, false}
-use Rattle.law_agenda.specs.declared.rows.Pick.{Pick}
-
--- the first of two rows of one length that differ in a place stands lower there
-abbrev pub Lex : {A : Type 0} → (A → A → Type 0) → List A → List A → Type 0
-Lex R [] ys = ⊥
-Lex R (x ∷ xs) [] = ⊥
-Lex R (x ∷ xs) (y ∷ ys) = R x y ⊎ ((x ≡ y) × Lex R xs ys)
+use Rattle.law_listing.specs.declared.pick.Pick.{Pick}
 
 -- picks stand in order by what they weigh, and then by which one it is
 abbrev pub IsLower : Pick → Pick → Type 0

@@ -1,84 +1,59 @@
--- Rows of picks stand for the arguments that they pick, in order.
-use Rattle.std.proofs.Common.{◌≡◌, ℕ, zero, suc, ◌-◌, ◌<◌, ◌⊎◌, inl, inr, List, [], ◌∷◌, length, map, Some, None, slice_get, slice_index_or, refl, sym, ap, ap₂, ◌∙◌, subst, arith}
+-- Rows of picks stand for the rows that they pick, in order.
+use Rattle.std.proofs.Common.{◌≡◌, ℕ, zero, suc, ◌-◌, ◌<◌, ◌⊎◌, inl, inr, List, [], ◌∷◌, length, map, Some, slice_get, slice_index_or, refl, sym, ap, ap₂, ◌∙◌, subst, arith}
+use Rattle.std.proofs.lemmas.Option.{slice_get_within}
 use Rattle.law_sig.specs.Lists.{In, Each, Rising}
-use Rattle.law_sig.specs.Lists.In.{here, there}
-use Rattle.law_sig.specs.declared.tree.Tree.{Tree}
-use Rattle.law_laws.proofs.ListFacts.{of_each}
-use Rattle.law_laws.proofs.BodyFacts.{some_is, none_is}
-use Rattle.law_agenda.specs.declared.rows.Pick.{Pick}
-use Rattle.law_agenda.specs.Rows.{Lex, IsLower, IsRow}
-use Rattle.law_agenda.specs.Choices.{Lists, counts_of, IsChosen, Picked}
-use Rattle.law_agenda.proofs.RowFacts.{same_pick}
+use Rattle.law_laws.proofs.BodyFacts.{some_is}
+use Rattle.law_listing.specs.declared.pick.Pick.{Pick}
+use Rattle.law_listing.specs.Rows.{IsChosen, Lex}
+use Rattle.law_listing.specs.Picks.{IsLower, IsRow}
+use Rattle.law_listing.specs.Choices.{counts_of, weighing, Picked}
+use Rattle.law_listing.proofs.Rising.{place_of, at_place, rising_places}
+use Rattle.law_listing.proofs.PickFacts.{same_pick}
 
--- Lists and places
+-- Items at places
 
-pub place_of : {A : Type 0} {x : A} {xs : List A} → In x xs → (n : ℕ) × (n < length xs) × (slice_get xs n ≡ Some x)
-place_of here = (0, omega arith, refl)
-place_of (there {xs = xs} at) = let (n, less, e) = place_of at in (suc n, omega arith, e)
+pub item_at : {A : Type 0} (xs : List A) (n : ℕ) → n < length xs → (x : A) × (slice_get xs n ≡ Some x)
+item_at [] n less = absurd (omega arith)
+item_at (x ∷ xs) zero less = (x, refl)
+item_at (x ∷ xs) (suc n) less = item_at xs n (omega arith)
 
-pub at_place : {A : Type 0} (xs : List A) (n : ℕ) → n < length xs → (x : A) × (slice_get xs n ≡ Some x)
-at_place [] n less = absurd (omega arith)
-at_place (x ∷ xs) zero less = (x, refl)
-at_place (x ∷ xs) (suc n) less = at_place xs n (omega arith)
-
-pub in_place : {A : Type 0} (xs : List A) (n : ℕ) (x : A) → slice_get xs n ≡ Some x → In x xs
-in_place [] n x e = none_is x e
-in_place (y ∷ xs) zero x e = subst (λ z. In z (y ∷ xs)) (some_is y x e) here
-in_place (y ∷ xs) (suc n) x e = there (in_place xs n x e)
-
-rising_places : {A : Type 0} (R : A → A → Type 0) (xs : List A) (n m : ℕ) (x y : A) → Rising R xs → n < m → slice_get xs n ≡ Some x → slice_get xs m ≡ Some y → R x y
-rising_places R [] n m x y h less e k = none_is x e
-rising_places R (z ∷ xs) zero zero x y h less e k = absurd (omega arith)
-rising_places R (z ∷ xs) zero (suc m) x y h less e k = subst (λ w. R w y) (some_is z x e) (of_each (R z) (in_place xs m y k) h.0)
-rising_places R (z ∷ xs) (suc n) zero x y h less e k = absurd (omega arith)
-rising_places R (z ∷ xs) (suc n) (suc m) x y h less e k = rising_places R xs n m x y h.1 (omega arith) e k
-
-length_at : (list : List (List Tree)) (k : ℕ) → slice_index_or (map length list) k 0 ≡ length (slice_index_or list k [])
+length_at : {A : Type 0} (list : List (List A)) (k : ℕ) → slice_index_or (map length list) k 0 ≡ length (slice_index_or list k [])
 length_at [] k = refl
 length_at (l ∷ list) zero = refl
 length_at (l ∷ list) (suc k) = length_at list k
 
-pub present : {A : Type 0} (xs : List A) (n : ℕ) (d x : A) → Some x ≡ slice_get xs n → slice_index_or xs n d ≡ x
-present [] n d x e = none_is x (sym e)
-present (y ∷ xs) zero d x e = sym (some_is x y e)
-present (y ∷ xs) (suc n) d x e = present xs n d x e
-
-pub missing : {A : Type 0} (xs : List A) (n : ℕ) (d : A) → None ≡ slice_get xs n → slice_index_or xs n d ≡ d
-missing [] n d e = refl
-missing (x ∷ xs) zero d e = none_is x e
-missing (x ∷ xs) (suc n) d e = missing xs n d e
-
 -- What a row picks
 
-pub row_picks : (lists : Lists) (weight : ℕ) (row : List Pick) → IsRow (counts_of lists) weight row → (args : List Tree) × Picked lists row args
+pub row_picks : {A : Type 0} (lists : List (List (List A))) (weight : ℕ) (row : List Pick) → IsRow (counts_of lists) weight row → (args : List A) × Picked lists row args
 row_picks [] weight [] is = ([], tt)
 row_picks [] weight (p ∷ row) is = absurd is
 row_picks (l ∷ lists) weight [] is = absurd is
 row_picks (l ∷ lists) weight (p ∷ row) is =
-    let (a, e) = at_place (slice_index_or l p.weight []) p.at (subst (λ n. p.at < n) (length_at l p.weight) is.1) in
+    let (a, e) = item_at (slice_index_or l p.weight []) p.at (subst (λ n. p.at < n) (length_at l p.weight) is.1) in
     let (args, picked) = row_picks lists (weight - p.weight) row is.2 in
     (a ∷ args, (e, picked))
 
-pub picked_chosen : (lists : Lists) (weight : ℕ) (row : List Pick) (args : List Tree) → IsRow (counts_of lists) weight row → Picked lists row args → IsChosen lists weight args
+pub picked_chosen : {A : Type 0} (lists : List (List (List A))) (weight : ℕ) (row : List Pick) (args : List A) → IsRow (counts_of lists) weight row → Picked lists row args → IsChosen weighing lists weight args
 picked_chosen [] weight [] [] is picked = is
 picked_chosen [] weight [] (a ∷ args) is picked = absurd picked
 picked_chosen [] weight (p ∷ row) args is picked = absurd is
 picked_chosen (l ∷ lists) weight [] args is picked = absurd is
 picked_chosen (l ∷ lists) weight (p ∷ row) [] is picked = absurd picked
 picked_chosen (l ∷ lists) weight (p ∷ row) (a ∷ args) is picked =
-    (p.weight, is.0, in_place (slice_index_or l p.weight []) p.at a picked.0, picked_chosen lists (weight - p.weight) row args is.2 picked.1)
+    (p.weight, is.0, at_place a (slice_index_or l p.weight []) p.at picked.0, picked_chosen lists (weight - p.weight) row args is.2 picked.1)
 
-pub chosen_picked : (lists : Lists) (weight : ℕ) (args : List Tree) → IsChosen lists weight args → (row : List Pick) × IsRow (counts_of lists) weight row × Picked lists row args
+pub chosen_picked : {A : Type 0} (lists : List (List (List A))) (weight : ℕ) (args : List A) → IsChosen weighing lists weight args → (row : List Pick) × IsRow (counts_of lists) weight row × Picked lists row args
 chosen_picked [] weight [] is = ([], is, tt)
 chosen_picked [] weight (a ∷ args) is = absurd is
 chosen_picked (l ∷ lists) weight [] is = absurd is
 chosen_picked (l ∷ lists) weight (a ∷ args) (own, upto, at, is) =
-    let (n, less, e) = place_of at in
+    let (n, e) = place_of at in
+    let less = slice_get_within (slice_index_or l own []) n a e in
     let (row, row_is, picked) = chosen_picked lists (weight - own) args is in
     let p : Pick = record { weight = own; at = n } in
     (p ∷ row, (upto, subst (λ m. n < m) (sym (length_at l own)) less, row_is), (e, picked))
 
-pub picked_one : (lists : Lists) (row : List Pick) (ss ts : List Tree) → Picked lists row ss → Picked lists row ts → ss ≡ ts
+pub picked_one : {A : Type 0} (lists : List (List (List A))) (row : List Pick) (ss ts : List A) → Picked lists row ss → Picked lists row ts → ss ≡ ts
 picked_one [] [] [] [] h k = refl
 picked_one [] [] [] (t ∷ ts) h k = absurd k
 picked_one [] [] (s ∷ ss) ts h k = absurd h
@@ -91,11 +66,11 @@ picked_one (l ∷ lists) (p ∷ row) (s ∷ ss) (t ∷ ts) h k = ap₂ ◌∷◌
 -- In order
 
 -- at each place, the terms of a weight rise, and those of a lower weight stand before those of a greater one
-pub record IsSorted (R : Tree → Tree → Type 0) (list : List (List Tree)) : Type 0 where
+pub record IsSorted {A : Type 0} (R : A → A → Type 0) (list : List (List A)) : Type 0 where
   pub rising : (k : ℕ) → Rising R (slice_index_or list k [])
-  pub across : (j k : ℕ) (s t : Tree) → j < k → In s (slice_index_or list j []) → In t (slice_index_or list k []) → R s t
+  pub across : (j k : ℕ) (s t : A) → j < k → In s (slice_index_or list j []) → In t (slice_index_or list k []) → R s t
 
-pub picked_rises : (R : Tree → Tree → Type 0) (lists : Lists) (row other : List Pick) (ss ts : List Tree) → Each (IsSorted R) lists
+pub picked_rises : {A : Type 0} (R : A → A → Type 0) (lists : List (List (List A))) (row other : List Pick) (ss ts : List A) → Each (IsSorted R) lists
     → Picked lists row ss → Picked lists other ts → Lex IsLower row other → Lex R ss ts
 picked_rises R lists [] other ss ts sorted h k less = absurd less
 picked_rises R lists (p ∷ row) [] ss ts sorted h k less = absurd less
@@ -103,7 +78,7 @@ picked_rises R [] (p ∷ row) (q ∷ other) ss ts sorted h k less = absurd h
 picked_rises R (l ∷ lists) (p ∷ row) (q ∷ other) [] ts sorted h k less = absurd h
 picked_rises R (l ∷ lists) (p ∷ row) (q ∷ other) (s ∷ ss) [] sorted h k less = absurd k
 picked_rises R (l ∷ lists) (p ∷ row) (q ∷ other) (s ∷ ss) (t ∷ ts) sorted h k (inl (inl lighter)) =
-    inl (sorted.0.across p.weight q.weight s t lighter (in_place _ p.at s h.0) (in_place _ q.at t k.0))
+    inl (sorted.0.across p.weight q.weight s t lighter (at_place s _ p.at h.0) (at_place t _ q.at k.0))
 picked_rises R (l ∷ lists) (p ∷ row) (q ∷ other) (s ∷ ss) (t ∷ ts) sorted h k (inl (inr (e, after))) =
     inl (rising_places R (slice_index_or l q.weight []) p.at q.at s t (sorted.0.rising q.weight) after (subst (λ w. slice_get (slice_index_or l w []) p.at ≡ Some s) e h.0) k.0)
 picked_rises R (l ∷ lists) (p ∷ row) (q ∷ other) (s ∷ ss) (t ∷ ts) sorted h k (inr (e, less)) = inr (
