@@ -3,3 +3,4 @@ pub mod Testing
 pub mod PoolFacts
 pub mod WordFacts
 pub mod TableFacts
+pub mod Evaluating
