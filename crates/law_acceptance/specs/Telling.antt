@@ -1,7 +1,7 @@
 -- What the items of the worked split trees mean at tests.
 use Rattle.std.proofs.Common.{sym, ap, ◌∙◌}
 use Rattle.std.specs.Prelude.{ℕ, ◌≡◌, ◌<◌, ◌/◌, ◌%◌, if◌then◌else◌, ◌==◌, ◌&&◌, nat_lt, List, length, slice_index}
-use Rattle.law_value.specs.declared.bank.ValueId.{ValueId}
+use Rattle.law_ids.specs.declared.ids.ValueId.{ValueId}
 
 -- two truth values, their conjunction, and that of the first with itself, at tests that give all pairs of values
 abbrev pub truth : ℕ → ℕ → ℕ

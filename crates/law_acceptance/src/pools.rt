@@ -1,5 +1,5 @@
 //! Pools of test values, given or from a seed, and the tests that they make.
-ghost use Rattle.law_pool.specs.Table.{IsFor};
+ghost use Rattle.law_ids.specs.Table.{IsFor};
 
 use crate::samples::PLUS;
 use crate::types::signature;

@@ -11,11 +11,11 @@ use Rattle.law_laws.specs.Renaming.{HasWidth}
 use Rattle.law_own.specs.Own.{IsNextOwn, vars_of}
 use Rattle.law_own.proofs.OwnTests.{own_tells, passes_on}
 use Rattle.law_own.proofs.Standing.{first_within, second_within}
-use Rattle.law_value.specs.declared.bank.ValueId.{ValueId}
-use Rattle.law_value.specs.Values.{IsShared, tree_of, Grows}
-use Rattle.law_gen.specs.Draws.{pools_by}
-use Rattle.law_test.specs.Values.{IsTestable, IsValue, tests_by, val_by}
-use Rattle.law_test.proofs.Testing.{value_stays}
+use Rattle.law_ids.specs.declared.ids.ValueId.{ValueId}
+use Rattle.law_ids.specs.Values.{IsShared, tree_of, Grows}
+use Rattle.law_draws.specs.Draws.{pools_by}
+use Rattle.law_testing.specs.Values.{IsTestable, IsValue, tests_by, val_by}
+use Rattle.law_testing.proofs.Testing.{value_stays}
 use Rattle.law_explore.specs.declared.refusal.ExploreErr.{ExploreErr}
 use Rattle.law_explore.specs.declared.refusal.ExploreErr.TheVariants as err
 use Rattle.law_explore.specs.Refusals.{Refusal, IsFirstAnswer, Breaks, HasBrokenBackground, IsTold}

@@ -13,11 +13,11 @@ use Rattle.law_sig.specs.declared.tree.Tree.TheVariants.{App}
 use Rattle.law_sig.specs.declared.parts.SigParts.{SigParts}
 use Rattle.law_laws.proofs.Sorts.{sorted_app}
 use Rattle.law_laws.proofs.TreeFacts.{same_app}
-use Rattle.law_value.specs.Values.{Grows}
-use Rattle.law_value.proofs.BankFacts.{get_stays, get_more}
-use Rattle.law_test.specs.Values.{IsTestable, Both}
+use Rattle.law_ids.specs.Values.{Grows}
+use Rattle.law_ids.proofs.BankFacts.{get_stays, get_more}
+use Rattle.law_testing.specs.Values.{IsTestable, Both}
 use Rattle.law_test.specs.Words.{same_items, Finds}
-use Rattle.law_test.proofs.BothFacts.{both_map}
+use Rattle.law_testing.proofs.BothFacts.{both_map}
 use Rattle.law_explore.specs.declared.refusal.ExploreErr.{ExploreErr}
 use Rattle.law_explore.specs.Values.{IsVector, HasVector, HasArgVectors}
 use Rattle.law_explore.specs.Classes.{AreDistinct, Extends, IsRemembered, Remembers, IsLearned}

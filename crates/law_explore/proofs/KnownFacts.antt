@@ -20,11 +20,11 @@ use Rattle.law_laws.proofs.ListFacts.{each_of}
 use Rattle.law_laws.proofs.Orders.{lighter_before, never_before_itself, before_chain}
 use Rattle.law_laws.proofs.Renaming.{bounded_vars}
 use Rattle.law_laws.proofs.Universe.{AreInU, in_app, arg_weight}
-use Rattle.law_value.specs.Values.{Grows}
-use Rattle.law_pool.proofs.Reading.{take_next}
-use Rattle.law_gen.specs.Draws.{pools_by}
-use Rattle.law_test.specs.Values.{IsTestable, Both}
-use Rattle.law_test.proofs.BothFacts.{both_at, both_more}
+use Rattle.law_ids.specs.Values.{Grows}
+use Rattle.law_ids.proofs.Reading.{take_next}
+use Rattle.law_draws.specs.Draws.{pools_by}
+use Rattle.law_testing.specs.Values.{IsTestable, Both}
+use Rattle.law_testing.proofs.BothFacts.{both_at, both_more}
 use Rattle.law_explore.specs.Universe.{IsUniverse}
 use Rattle.law_explore.specs.Refusals.{Refusal, LacksValue, HasLackingTerm}
 use Rattle.law_explore.specs.Values.{HasVector, IsPlaced, HasClass, AreArgsPlaced, HasArgClasses, HasArgVectors}

@@ -9,9 +9,9 @@ use Rattle.law_sig.specs.declared.parts.Equation.{Equation}
 use Rattle.law_sig.specs.declared.parts.SigParts.{SigParts}
 use Rattle.law_laws.proofs.Coverage.{covers}
 use Rattle.law_laws.proofs.ListFacts.{each_map}
-use Rattle.law_value.specs.Values.{IsShared}
-use Rattle.law_gen.specs.Draws.{pools_by}
-use Rattle.law_test.proofs.BothFacts.{both_long}
+use Rattle.law_ids.specs.Values.{IsShared}
+use Rattle.law_draws.specs.Draws.{pools_by}
+use Rattle.law_testing.proofs.BothFacts.{both_long}
 use Rattle.law_explore.specs.Universe.{IsUniverse}
 use Rattle.law_explore.specs.Firsts.{AreFirsts}
 use Rattle.law_explore.specs.Equations.{equations}

@@ -17,14 +17,14 @@ use Rattle.law_laws.proofs.TreeFacts.{same_app, var_no_app}
 use Rattle.law_own.specs.Own.{own, vars_of}
 use Rattle.law_own.proofs.OwnTests.{own_tells}
 use Rattle.law_own.proofs.Standing.{first_within}
-use Rattle.law_value.specs.declared.bank.ValueId.{ValueId}
-use Rattle.law_value.specs.Values.{AreOf, Grows}
-use Rattle.law_pool.proofs.Reading.{each_at, take_next}
+use Rattle.law_ids.specs.declared.ids.ValueId.{ValueId}
+use Rattle.law_ids.specs.Values.{AreOf, Grows}
+use Rattle.law_ids.proofs.Reading.{each_at, take_next}
 use Rattle.law_eval.specs.declared.error.EvalErr.{EvalErr}
-use Rattle.law_gen.specs.Draws.{pools_by}
-use Rattle.law_test.specs.Values.{IsTestable, IsValue, Both, applied_value, tests_by, val_by}
-use Rattle.law_test.proofs.BothFacts.{both_more, both_map, both_long}
-use Rattle.law_test.proofs.Testing.{value_stays, values_held, application_value, few_args}
+use Rattle.law_draws.specs.Draws.{pools_by}
+use Rattle.law_testing.specs.Values.{IsTestable, IsValue, Both, applied_value, tests_by, val_by}
+use Rattle.law_testing.proofs.BothFacts.{both_more, both_map, both_long}
+use Rattle.law_testing.proofs.Testing.{value_stays, values_held, application_value, few_args}
 use Rattle.law_explore.specs.declared.refusal.ExploreErr.{ExploreErr}
 use Rattle.law_explore.specs.Refusals.{LacksValue, IsTold, IsOver}
 use Rattle.law_explore.specs.Refusals.Refusal.{Over}

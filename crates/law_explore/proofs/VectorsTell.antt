@@ -13,10 +13,10 @@ use Rattle.law_sig.specs.declared.parts.SigParts.{SigParts}
 use Rattle.law_laws.proofs.Decide.{trees_decided}
 use Rattle.law_laws.proofs.ListFacts.{of_each, in_rest}
 use Rattle.law_laws.proofs.Orders.{never_before_itself}
-use Rattle.law_value.specs.declared.bank.ValueId.{ValueId}
-use Rattle.law_value.specs.Values.{IsShared, tree_of}
-use Rattle.law_gen.specs.Draws.{pools_by}
-use Rattle.law_test.specs.Values.{Both, tests_by}
+use Rattle.law_ids.specs.declared.ids.ValueId.{ValueId}
+use Rattle.law_ids.specs.Values.{IsShared, tree_of}
+use Rattle.law_draws.specs.Draws.{pools_by}
+use Rattle.law_testing.specs.Values.{Both, tests_by}
 use Rattle.law_explore.specs.Universe.{IsUniverse}
 use Rattle.law_explore.specs.Tells.{Tells}
 use Rattle.law_explore.specs.Values.{IsVector, HasVector, id_in}

@@ -5,7 +5,7 @@ use Rattle.law_sig.specs.declared.tree.SymId.{SymId}
 use Rattle.law_sig.specs.declared.tree.Tree.{Tree}
 use Rattle.law_sig.specs.declared.tree.Tree.TheVariants.{App}
 use Rattle.law_sig.specs.declared.parts.SigParts.{SigParts}
-use Rattle.law_test.specs.Values.{Both, IsTestable}
+use Rattle.law_testing.specs.Values.{Both, IsTestable}
 use Rattle.law_test.specs.Words.{same_items, Finds}
 use Rattle.law_explore.specs.Values.{HasVector}
 

@@ -9,9 +9,9 @@ use Rattle.law_sig.specs.declared.tree.Tree.{Tree}
 use Rattle.law_sig.specs.declared.tree.Tree.TheVariants.{App}
 use Rattle.law_sig.specs.declared.parts.Equation.{Equation}
 use Rattle.law_sig.specs.declared.parts.SigParts.{SigParts}
-use Rattle.law_value.specs.declared.bank.ValueId.{ValueId}
-use Rattle.law_value.specs.Values.{IsOf, tree_of}
-use Rattle.law_test.specs.Values.{IsValue, Both, tests_by, val_by}
+use Rattle.law_ids.specs.declared.ids.ValueId.{ValueId}
+use Rattle.law_ids.specs.Values.{IsOf, tree_of}
+use Rattle.law_testing.specs.Values.{IsValue, Both, tests_by, val_by}
 use Rattle.law_explore.specs.Refusals.{Refusal}
 use Rattle.law_explore.specs.Refusals.Refusal.{Over}
 

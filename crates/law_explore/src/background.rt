@@ -1,9 +1,9 @@
 ghost use Rattle.std.specs.Prelude.{◌+◌, ◌<◌, IfOk, IfErr, OnOk};
 ghost use Rattle.law_sig.specs.Tests.{Agrees};
-ghost use Rattle.law_value.specs.Values.{Grows};
-ghost use Rattle.law_gen.specs.Draws.{pools_by};
+ghost use Rattle.law_ids.specs.Values.{Grows};
+ghost use Rattle.law_draws.specs.Draws.{pools_by};
 ghost use Rattle.law_sig.specs.Laws.{IsBackgroundTrue};
-ghost use Rattle.law_test.specs.Values.{ArePools, IsTestable, IsValue, tests_by};
+ghost use Rattle.law_testing.specs.Values.{ArePools, IsTestable, IsValue, tests_by};
 ghost use Rattle.law_explore.specs.Refusals.{Breaks, IsFirstAnswer, HasBrokenBackground, IsTold};
 ghost use Rattle.law_explore.specs.Values.{IsLacking, HoldsAt};
 

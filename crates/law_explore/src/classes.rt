@@ -2,9 +2,9 @@ ghost use Rattle.std.specs.Prelude.{◌≡◌, ◌<◌, ◌^◌, ◌∷◌, leng
 ghost use Rattle.indexmap.specs.IndexMap.{get};
 ghost use Rattle.law_sig.specs.Lists.{Each};
 ghost use Rattle.law_sig.specs.WellFormed.{IsWellFormed};
-ghost use Rattle.law_value.specs.Values.{AreOf, Grows};
-ghost use Rattle.law_gen.specs.Draws.{pools_by};
-ghost use Rattle.law_test.specs.Values.{ArePools, IsTestable, IsValue, Both, applied_value, tests_by, val_by};
+ghost use Rattle.law_ids.specs.Values.{AreOf, Grows};
+ghost use Rattle.law_draws.specs.Draws.{pools_by};
+ghost use Rattle.law_testing.specs.Values.{ArePools, IsTestable, IsValue, Both, applied_value, tests_by, val_by};
 ghost use Rattle.law_test.specs.Words.{same_items};
 ghost use Rattle.law_explore.specs.Universe.{IsUniverse};
 ghost use Rattle.law_explore.specs.Refusals.{LacksValue, HasLackingTerm, IsTold};

@@ -1,9 +1,9 @@
 ghost use Rattle.std.specs.Prelude.{◌≤◌, IfOk, IfErr};
 ghost use Rattle.law_sig.specs.Tests.{assignments};
-ghost use Rattle.law_value.specs.Values.{Grows};
-ghost use Rattle.law_gen.specs.Draws.{pools_by};
+ghost use Rattle.law_ids.specs.Values.{Grows};
+ghost use Rattle.law_draws.specs.Draws.{pools_by};
 ghost use Rattle.law_lines.specs.Signature.{IsRawSig};
-ghost use Rattle.law_test.specs.Values.{ArePools};
+ghost use Rattle.law_testing.specs.Values.{ArePools};
 ghost use Rattle.law_explore.specs.LawList.{AreLaws, IsLawListOf, OneRefusal, NoneWithin};
 ghost use Rattle.law_explore.specs.Refusals.{IsRefusal, HasLargeValue, HasSmallValues, HasLackingTerm, IsTold};
 ghost use Rattle.law_explore.specs.Named.{IsNamedLawList};

@@ -12,8 +12,8 @@ use Rattle.law_sig.specs.declared.tree.SymId.{SymId}
 use Rattle.law_sig.specs.declared.tree.Tree.{Tree}
 use Rattle.law_sig.specs.declared.parts.SigParts.{SigParts}
 use Rattle.law_laws.proofs.Application.{ap_gives, gives_ap, costs_over, one_value}
-use Rattle.law_value.specs.declared.bank.ValueId.{ValueId}
-use Rattle.law_value.specs.Values.{IsOf, AreOf, no_tree, tree_of, trees_of, Grows}
+use Rattle.law_ids.specs.declared.ids.ValueId.{ValueId}
+use Rattle.law_ids.specs.Values.{IsOf, AreOf, no_tree, tree_of, trees_of, Grows}
 use Rattle.law_memo.specs.declared.memo.Call.{Call}
 use Rattle.law_memo.specs.declared.memo.Known.{Known}
 use Rattle.law_memo.specs.Right.{IsRight, AreRight}

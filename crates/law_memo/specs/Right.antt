@@ -4,8 +4,8 @@ use Rattle.law_sig.specs.Relation.{Applies}
 use Rattle.law_sig.specs.declared.tree.SymId.{SymId}
 use Rattle.law_sig.specs.declared.tree.Tree.{Tree}
 use Rattle.law_sig.specs.declared.parts.SigParts.{SigParts}
-use Rattle.law_value.specs.declared.bank.ValueId.{ValueId}
-use Rattle.law_value.specs.Values.{IsOf, AreOf, tree_of, trees_of}
+use Rattle.law_ids.specs.declared.ids.ValueId.{ValueId}
+use Rattle.law_ids.specs.Values.{IsOf, AreOf, tree_of, trees_of}
 use Rattle.law_memo.specs.declared.memo.Call.{Call}
 use Rattle.law_memo.specs.declared.memo.Known.{Known}
 

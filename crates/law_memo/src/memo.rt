@@ -3,7 +3,7 @@ ghost use Rattle.lru.specs.LruCache.{lru_cache};
 ghost use Rattle.law_sig.specs.Evaluate.{ap};
 ghost use Rattle.law_sig.specs.declared.tree.Tree.{Tree};
 ghost use Rattle.law_sig.specs.declared.parts.SigParts.{SigParts};
-ghost use Rattle.law_value.specs.Values.{IsOf, AreOf, tree_of, trees_of, Grows};
+ghost use Rattle.law_ids.specs.Values.{IsOf, AreOf, tree_of, trees_of, Grows};
 ghost use Rattle.law_memo.specs.Right.{IsRight, AreRight};
 
 use law_eval::EvalErr;

@@ -8,17 +8,17 @@ use Rattle.law_sig.specs.declared.tree.SymId.{SymId}
 use Rattle.law_sig.specs.declared.tree.Tree.{Tree}
 use Rattle.law_sig.specs.declared.tree.Tree.TheVariants.{App}
 use Rattle.law_sig.specs.declared.parts.SigParts.{SigParts}
-use Rattle.law_value.specs.declared.bank.ValueId.{ValueId}
-use Rattle.law_value.specs.Values.{IsOf, AreOf, tree_of, trees_of, Grows}
+use Rattle.law_ids.specs.declared.ids.ValueId.{ValueId}
+use Rattle.law_ids.specs.Values.{IsOf, AreOf, tree_of, trees_of, Grows}
 use Rattle.law_eval.specs.declared.error.EvalErr.{EvalErr}
-use Rattle.law_pool.specs.Table.{PoolTable}
-use Rattle.law_pool.proofs.Reading.{grows_not, grows_on, id_keeps, ids_keep, each_at, take_next}
+use Rattle.law_ids.specs.Table.{PoolTable}
+use Rattle.law_ids.proofs.Reading.{grows_not, grows_on, id_keeps, ids_keep, each_at, take_next}
 use Rattle.law_test.specs.declared.memo.Key.{Key}
 use Rattle.law_test.specs.declared.memo.Known.{Known}
-use Rattle.law_test.specs.Values.{IsTestable, IsValue, Both, val_by, applied_value}
+use Rattle.law_testing.specs.Values.{IsTestable, IsValue, Both, val_by, applied_value}
 use Rattle.law_test.specs.Memo.{Gives, row_of, IsRight, AreRight, Values, AreReady, Extends}
-use Rattle.law_test.proofs.BothFacts.{both_more, both_map}
-use Rattle.law_test.proofs.Testing.{pools_stay, value_stays, few_args, HasValues}
+use Rattle.law_testing.proofs.BothFacts.{both_more, both_map}
+use Rattle.law_testing.proofs.Testing.{pools_stay, value_stays, few_args, HasValues}
 
 -- One evaluator after another
 

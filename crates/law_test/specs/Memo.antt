@@ -4,12 +4,12 @@ use Rattle.law_sig.specs.Lists.{Each}
 use Rattle.law_sig.specs.declared.tree.SymId.{SymId}
 use Rattle.law_sig.specs.declared.tree.Tree.{Tree}
 use Rattle.law_sig.specs.declared.parts.SigParts.{SigParts}
-use Rattle.law_value.specs.declared.bank.ValueId.{ValueId}
-use Rattle.law_value.specs.Values.{IsOf, AreOf, tree_of, Grows}
-use Rattle.law_pool.specs.Table.{PoolTable}
+use Rattle.law_ids.specs.declared.ids.ValueId.{ValueId}
+use Rattle.law_ids.specs.Values.{IsOf, AreOf, tree_of, Grows}
+use Rattle.law_ids.specs.Table.{PoolTable}
 use Rattle.law_test.specs.declared.memo.Key.{Key}
 use Rattle.law_test.specs.declared.memo.Known.{Known}
-use Rattle.law_test.specs.Values.{ArePools, applied_value}
+use Rattle.law_testing.specs.Values.{ArePools, applied_value}
 
 -- the symbol gives this value of these
 pub record Gives (parts : SigParts) (bank : List Tree) (f : SymId) (ids : List ValueId) (v : ValueId) : Type 0 where

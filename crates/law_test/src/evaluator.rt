@@ -1,6 +1,6 @@
 ghost use Rattle.std.specs.Prelude.{◌≡◌, ◌<◌, ◌^◌, length, None, IfOk, IsErrOf};
-ghost use Rattle.law_value.specs.Values.{AreOf, IsShared};
-ghost use Rattle.law_test.specs.Values.{IsTestable, IsValue, applied_value, tests_by, val_by};
+ghost use Rattle.law_ids.specs.Values.{AreOf, IsShared};
+ghost use Rattle.law_testing.specs.Values.{IsTestable, IsValue, applied_value, tests_by, val_by};
 ghost use Rattle.law_test.specs.Memo.{Gives, AreReady, Extends};
 
 use super::memo::{Known, Memo, key_of};

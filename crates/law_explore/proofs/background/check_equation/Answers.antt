@@ -1,12 +1,12 @@
 use Rattle.std.proofs.Common.{ℕ, ◌<◌, ◌≤◌, ◌^◌, subst, arith}
-use Rattle.law_gen.specs.Draws.{pools_by}
+use Rattle.law_draws.specs.Draws.{pools_by}
 use Rattle.law_own.proofs.OwnTests.{first_is_own}
 use Rattle.law_own.specs.Own.{vars_of}
 use Rattle.law_pool.specs.Wheels.{IsTrackOf}
 use Rattle.law_explore.specs.Refusals.{Breaks, IsFirstAnswer}
-use Rattle.law_test.specs.Values.{tests_by}
-use Rattle.law_pool.proofs.Reading.{grows_not, grows_on}
-use Rattle.law_test.proofs.Testing.{pools_stay}
+use Rattle.law_testing.specs.Values.{tests_by}
+use Rattle.law_ids.proofs.Reading.{grows_not, grows_on}
+use Rattle.law_testing.proofs.Testing.{pools_stay}
 use Rattle.law_explore.proofs.Breaking.{handed_on, breaks_first, holds_on, holds_all}
 use Rattle.law_explore.proofs.background.check_equation.Goals as goal
 

@@ -1,6 +1,6 @@
 use Rattle.std.proofs.Common.{ℕ, ◌<◌, ◌-◌}
 use Rattle.law_own.specs.Own.{IsOwn, vars_of}
-use Rattle.law_value.specs.Values.{Grows}
+use Rattle.law_ids.specs.Values.{Grows}
 use Rattle.law_explore.specs.Values.{HoldsAt}
 use Rattle.law_explore.proofs.background.check_equation.Given as goal
 

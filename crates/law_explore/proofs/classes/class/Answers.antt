@@ -1,5 +1,5 @@
 use Rattle.indexmap.specs.IndexMap.{get}
-use Rattle.law_pool.proofs.Reading.{grows_not}
+use Rattle.law_ids.proofs.Reading.{grows_not}
 use Rattle.law_test.specs.Words.{same_items}
 use Rattle.law_explore.proofs.ClassFacts.{class_recalled, class_learned, remembers_after, remembers_stay, extends_not, arg_vectors_stay}
 use Rattle.law_explore.proofs.classes.class.Goals as goal

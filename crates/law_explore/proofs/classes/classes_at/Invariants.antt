@@ -1,5 +1,5 @@
 use Rattle.std.proofs.Common.{take}
-use Rattle.law_test.specs.Values.{Both}
+use Rattle.law_testing.specs.Values.{Both}
 use Rattle.law_explore.specs.Values.{HasClass}
 use Rattle.law_explore.proofs.classes.classes_at.Given as goal
 

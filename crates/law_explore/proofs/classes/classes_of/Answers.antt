@@ -1,12 +1,12 @@
 use Rattle.std.proofs.Common.{[], take, sym, ap, ◌∙◌, subst}
 use Rattle.std.specs.Map.{lookup}
 use Rattle.indexmap.specs.IndexMap.{get}
-use Rattle.law_gen.specs.Draws.{pools_by}
-use Rattle.law_value.proofs.BankFacts.{take_all}
-use Rattle.law_pool.proofs.Reading.{grows_not, grows_on}
-use Rattle.law_test.specs.Values.{Both}
+use Rattle.law_draws.specs.Draws.{pools_by}
+use Rattle.law_ids.proofs.BankFacts.{take_all}
+use Rattle.law_ids.proofs.Reading.{grows_not, grows_on}
+use Rattle.law_testing.specs.Values.{Both}
 use Rattle.law_test.specs.Words.{same_items}
-use Rattle.law_test.proofs.Testing.{pools_stay}
+use Rattle.law_testing.proofs.Testing.{pools_stay}
 use Rattle.law_explore.specs.Refusals.{LacksValue, HasLackingTerm}
 use Rattle.law_explore.specs.Values.{HasVector, AreArgsPlaced, HasArgClasses}
 use Rattle.law_explore.specs.Classes.{AreDistinct}

@@ -1,7 +1,7 @@
 use Rattle.std.proofs.Common.{take}
 use Rattle.indexmap.specs.IndexMap.{get}
-use Rattle.law_value.specs.Values.{Grows}
-use Rattle.law_test.specs.Values.{Both}
+use Rattle.law_ids.specs.Values.{Grows}
+use Rattle.law_testing.specs.Values.{Both}
 use Rattle.law_test.specs.Words.{same_items}
 use Rattle.law_explore.specs.Values.{HasVector}
 use Rattle.law_explore.specs.Classes.{AreDistinct, Remembers}

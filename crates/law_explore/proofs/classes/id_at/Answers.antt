@@ -1,5 +1,5 @@
 use Rattle.std.proofs.Common.{Err, ap, arith}
-use Rattle.law_pool.proofs.Reading.{grows_not}
+use Rattle.law_ids.proofs.Reading.{grows_not}
 use Rattle.law_explore.proofs.VectorFacts.{own_id, lacks_value}
 use Rattle.law_explore.proofs.classes.id_at.Goals as goal
 

@@ -1,9 +1,9 @@
 use Rattle.std.proofs.Common.{◌≡◌, ◌<◌, ◌^◌, ◌∙◌, ℕ, sym, subst, arith}
 use Rattle.law_own.specs.Own.{vars_of}
-use Rattle.law_pool.proofs.Reading.{grows_on}
+use Rattle.law_ids.proofs.Reading.{grows_on}
 use Rattle.law_pool.specs.Wheels.{IsTrackOf}
-use Rattle.law_test.specs.Values.{tests_by}
-use Rattle.law_test.proofs.Testing.{pools_stay}
+use Rattle.law_testing.specs.Values.{tests_by}
+use Rattle.law_testing.proofs.Testing.{pools_stay}
 use Rattle.law_explore.specs.Values.{AreIds, id_of}
 use Rattle.law_explore.proofs.VectorFacts.{args_stay, ids_next, own_value}
 use Rattle.law_explore.proofs.classes.ids_of.Goals as goal

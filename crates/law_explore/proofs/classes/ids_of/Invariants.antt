@@ -1,4 +1,4 @@
-use Rattle.law_value.specs.Values.{Grows}
+use Rattle.law_ids.specs.Values.{Grows}
 use Rattle.law_explore.specs.Values.{AreIds}
 use Rattle.law_explore.proofs.classes.ids_of.Given as goal
 

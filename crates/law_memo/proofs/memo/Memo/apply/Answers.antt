@@ -1,5 +1,5 @@
 use Rattle.std.proofs.Common.{List, subst, sym, rules}
-use Rattle.law_value.specs.declared.bank.ValueId.{ValueId}
+use Rattle.law_ids.specs.declared.ids.ValueId.{ValueId}
 use Rattle.law_memo.specs.declared.memo.Known.{Known}
 use Rattle.law_memo.specs.Right.{IsRight}
 use Rattle.law_memo.proofs.RightFacts.{all_stay, hit, hit_over, is_right}

@@ -2,9 +2,9 @@
 use Rattle.std.proofs.Common.{◌≡◌, ℕ, zero, suc, ◌+◌, ◌<◌, List, [], ◌∷◌, ◌++◌, map, length, take, slice_index_or, sym, refl, ap, ap₂, ◌∙◌, subst, arith, append_assoc}
 use Rattle.law_sig.specs.Lists.{Each}
 use Rattle.law_sig.specs.declared.tree.Tree.{Tree}
-use Rattle.law_value.specs.declared.bank.ValueId.{ValueId}
-use Rattle.law_value.specs.Values.{IsOf, AreOf, tree_of, trees_of, Grows}
-use Rattle.law_value.proofs.BankFacts.{tree_stays, id_stays}
+use Rattle.law_ids.specs.declared.ids.ValueId.{ValueId}
+use Rattle.law_ids.specs.Values.{IsOf, AreOf, tree_of, trees_of, Grows}
+use Rattle.law_ids.proofs.BankFacts.{tree_stays, id_stays}
 
 -- growth goes on
 pub grows_not : (a : List Tree) → Grows a a

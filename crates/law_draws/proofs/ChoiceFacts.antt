@@ -10,10 +10,10 @@ use Rattle.law_sig.specs.declared.tree.SymId.{SymId}
 use Rattle.law_sig.specs.declared.parts.Sym.{Sym}
 use Rattle.law_sig.specs.declared.parts.Sym.TheVariants as sort_of_symbol
 use Rattle.law_sig.specs.declared.parts.SigParts.{SigParts}
-use Rattle.law_gen.specs.Draws.{sorts_in, fits_over, choices}
-use Rattle.law_gen.specs.Choices.{level_of, is_some_choice}
-use Rattle.law_pool.proofs.Reading.{take_next}
-use Rattle.law_gen.proofs.First.{first_at}
+use Rattle.law_draws.specs.Draws.{sorts_in, fits_over, choices}
+use Rattle.law_draws.specs.Choices.{level_of, is_some_choice}
+use Rattle.law_ids.proofs.Reading.{take_next}
+use Rattle.law_draws.proofs.First.{first_at}
 
 -- one item more of a filtered list
 filter_more : {A : Type 0} (P : A → Bool) (xs : List A) (x : A) → filter P (xs ++ x ∷ []) ≡ filter P xs ++ cond (P x) (x ∷ []) []

@@ -1,6 +1,6 @@
 -- Two lists, item by item in a relation.
 use Rattle.std.proofs.Common.{◌≡◌, ℕ, zero, suc, List, [], ◌∷◌, ◌++◌, length, slice_get, Some, refl, ap, subst}
-use Rattle.law_test.specs.Values.{Both}
+use Rattle.law_testing.specs.Values.{Both}
 
 -- one more of each
 pub both_more : {A B : Type 0} (R : A → B → Type 0) (xs : List A) (ys : List B) (x : A) (y : B) → Both R xs ys → R x y → Both R (xs ++ x ∷ []) (ys ++ y ∷ [])

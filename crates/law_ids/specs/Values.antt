@@ -9,7 +9,7 @@ use Rattle.law_sig.specs.declared.tree.Tree.TheOpen as o
 use Rattle.law_sig.specs.declared.tree.Tree.TheVariants.{Var}
 use Rattle.law_sig.specs.declared.tree.Tree.TheViews.{out-Tree}
 use Rattle.law_sig.specs.declared.tree.Tree.TheFolds.{fold-Tree}
-use Rattle.law_value.specs.declared.bank.ValueId.{ValueId}
+use Rattle.law_ids.specs.declared.ids.ValueId.{ValueId}
 
 -- an id of the bank
 abbrev pub IsOf : List Tree → ValueId → Type 0

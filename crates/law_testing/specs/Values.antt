@@ -8,10 +8,10 @@ use Rattle.law_sig.specs.declared.tree.SymId.{SymId}
 use Rattle.law_sig.specs.declared.tree.Tree.{Tree}
 use Rattle.law_sig.specs.declared.parts.SigParts.{SigParts}
 use Rattle.law_laws.specs.Renaming.{has_vars}
-use Rattle.law_value.specs.declared.bank.ValueId.{ValueId}
-use Rattle.law_value.specs.Values.{IsOf, tree_of, trees_of}
-use Rattle.law_pool.specs.Table.{PoolTable, IsFor, AreHeld, pools_of}
-use Rattle.law_gen.specs.Draws.{pools_by}
+use Rattle.law_ids.specs.declared.ids.ValueId.{ValueId}
+use Rattle.law_ids.specs.Values.{IsOf, tree_of, trees_of}
+use Rattle.law_ids.specs.Table.{PoolTable, IsFor, AreHeld, pools_of}
+use Rattle.law_draws.specs.Draws.{pools_by}
 
 -- the pools of the signature, with their values in this bank
 pub record ArePools (parts : SigParts) (bank : List Tree) (table : PoolTable) : Type 0 where

@@ -1,6 +1,6 @@
 -- Lists whose last item comes next.
 use Rattle.std.proofs.Common.{◌≡◌, List, [], ◌∷◌, ◌++◌, length, refl, ap, ◌∙◌, arith}
-use Rattle.law_value.specs.Tops.{tops_onto, tops}
+use Rattle.law_ids.specs.Tops.{tops_onto, tops}
 
 onto-pushed : {A B : Type 0} (f : A → B) (xs : List A) (x : A) (more : List B) → tops_onto f (xs ++ x ∷ []) more ≡ f x ∷ tops_onto f xs more
 onto-pushed f [] x more = refl

@@ -1,5 +1,5 @@
 -- What a bank says of an id stays when the bank grows, and what a tree's layer is.
-use Rattle.std.proofs.Common.{◌≡◌, ℕ, zero, suc, ◌+◌, ◌<◌, ◌⊎◌, inl, inr, List, [], ◌∷◌, ◌++◌, length, map, take, ◌≤◌, Option, Some, slice_get, refl, sym, ap, ◌∙◌, arith, length-append}
+use Rattle.std.proofs.Common.{◌≡◌, ℕ, zero, suc, ◌+◌, ◌<◌, ◌⊎◌, inl, inr, List, [], ◌∷◌, ◌++◌, length, map, take, ◌≤◌, Option, Some, slice_get, refl, sym, ap, ◌∙◌, arith, length-append, ◌^◌, Bool, ◌&&◌, nat_lt}
 use Rattle.std.proofs.Math.ListN.{get_or-append}
 use Rattle.std.proofs.lemmas.Option.{get_or_from_slice_get}
 use Rattle.law_sig.specs.Lists.{Each, total}
@@ -10,8 +10,9 @@ use Rattle.law_sig.specs.declared.tree.Tree.TheOpen as o
 use Rattle.law_sig.specs.declared.tree.Tree.TheFolds.{fold-roll-Tree}
 use Rattle.law_sig.specs.declared.tree.Tree.TheVariants.{App, outs-App, rolls-App}
 use Rattle.law_sig.specs.declared.tree.Tree.TheViews.{out-Tree, roll-Tree, roll-out-Tree}
-use Rattle.law_value.specs.declared.bank.ValueId.{ValueId}
-use Rattle.law_value.specs.Values.{IsOf, AreOf, no_tree, tree_of, trees_of, head_in, fields_in, head_of, fields_of, IsShared}
+use Rattle.law_ids.specs.declared.ids.ValueId.{ValueId}
+use Rattle.law_ids.specs.Values.{IsOf, AreOf, no_tree, tree_of, trees_of, head_in, fields_in, head_of, fields_of, IsShared, plain_step, is_plain}
+use Rattle.std.specs.List.{list_all}
 
 -- an id keeps its tree
 pub tree_stays : (bank more : List Tree) (v : ValueId) → IsOf bank v → tree_of (bank ++ more) v ≡ tree_of bank v
@@ -115,3 +116,10 @@ held_more bank (x ∷ ids) v held is = (held.0, held_more bank ids v held.1 is)
 pub trees_more : (bank : List Tree) (ids : List ValueId) (v : ValueId) → trees_of bank (ids ++ v ∷ []) ≡ trees_of bank ids ++ tree_of bank v ∷ []
 trees_more bank [] v = refl
 trees_more bank (x ∷ ids) v = ap (λ l. tree_of bank x ∷ l) (trees_more bank ids v)
+
+pub plain-App : (f : SymId) (args : List Tree) → is_plain (App f args) ≡ (nat_lt (length (map is_plain args)) (2 ^ 32) && list_all (λ b. b) (map is_plain args))
+plain-App f args = ap is_plain (sym (rolls-App f args)) ∙ fold-roll-Tree Bool plain_step (o.App f args)
+
+pub length_map : {A B : Type 0} (f : A → B) (xs : List A) → length (map f xs) ≡ length xs
+length_map f [] = refl
+length_map f (x ∷ xs) = ap suc (length_map f xs)

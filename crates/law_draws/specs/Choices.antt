@@ -3,7 +3,7 @@ use Rattle.std.specs.Prelude.{ℕ, ◌+◌, List, [], ◌∷◌, Bool, true, fal
 use Rattle.law_sig.specs.Tests.{first_of}
 use Rattle.law_sig.specs.declared.tree.SymId.{SymId}
 use Rattle.law_sig.specs.declared.parts.SigParts.{SigParts}
-use Rattle.law_gen.specs.Draws.{choices}
+use Rattle.law_draws.specs.Draws.{choices}
 
 -- for each sort those of one height
 abbrev pub level_of : SigParts → ℕ → List (List SymId)

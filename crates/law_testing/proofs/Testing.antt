@@ -15,14 +15,14 @@ use Rattle.law_laws.specs.Renaming.{has_vars}
 use Rattle.law_laws.proofs.Renaming.{vars-App}
 use Rattle.law_laws.proofs.Sorts.{HaveSorts, sorted_app}
 use Rattle.law_laws.proofs.TreeFacts.{val-App}
-use Rattle.law_value.specs.declared.bank.ValueId.{ValueId}
-use Rattle.law_value.specs.Values.{IsOf, AreOf, tree_of, trees_of, Grows}
-use Rattle.law_pool.specs.Table.{PoolTable, IsFor, pools_of}
-use Rattle.law_value.proofs.BankFacts.{take_all}
-use Rattle.law_pool.proofs.Reading.{list_keeps, sorts_keep, id_keeps, each_at, take_next}
-use Rattle.law_gen.specs.Draws.{pools_by}
-use Rattle.law_test.specs.Values.{ArePools, IsTestable, IsValue, Both, tests_by, val_by, applied_value}
-use Rattle.law_test.proofs.BothFacts.{both_more, both_map, both_long}
+use Rattle.law_ids.specs.declared.ids.ValueId.{ValueId}
+use Rattle.law_ids.specs.Values.{IsOf, AreOf, tree_of, trees_of, Grows}
+use Rattle.law_ids.specs.Table.{PoolTable, IsFor, pools_of}
+use Rattle.law_ids.proofs.BankFacts.{take_all}
+use Rattle.law_ids.proofs.Reading.{list_keeps, sorts_keep, id_keeps, each_at, take_next}
+use Rattle.law_draws.specs.Draws.{pools_by}
+use Rattle.law_testing.specs.Values.{ArePools, IsTestable, IsValue, Both, tests_by, val_by, applied_value}
+use Rattle.law_testing.proofs.BothFacts.{both_more, both_map, both_long}
 
 -- Pools and values stay when the bank grows
 

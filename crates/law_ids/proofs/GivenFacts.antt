@@ -13,14 +13,10 @@ use Rattle.law_sig.specs.declared.parts.SigParts.{SigParts}
 use Rattle.law_laws.proofs.TreeFacts.{tree_induct, fold-Var, fold-App}
 use Rattle.law_laws.proofs.ListFacts.{each_map}
 use Rattle.law_laws.proofs.Sorts.{HaveSorts, sorted_app, both_true}
-use Rattle.law_value.specs.declared.bank.ValueId.{ValueId}
-use Rattle.law_value.specs.Values.{is_plain, tree_of, trees_of}
-use Rattle.law_value.proofs.ReadFacts.{plain-App}
-use Rattle.law_pool.specs.Table.{Ids, HasShape, pools_of, given_in}
-
-length_map : {A B : Type 0} (f : A → B) (xs : List A) → length (map f xs) ≡ length xs
-length_map f [] = refl
-length_map f (x ∷ xs) = ap suc (length_map f xs)
+use Rattle.law_ids.specs.declared.ids.ValueId.{ValueId}
+use Rattle.law_ids.specs.Values.{is_plain, tree_of, trees_of}
+use Rattle.law_ids.proofs.BankFacts.{plain-App, length_map}
+use Rattle.law_ids.specs.Table.{Ids, HasShape, pools_of, given_in}
 
 -- a value is plain
 pub have_count : (parts : SigParts) (ts : List Tree) (ws : List SortId) → HaveSorts parts ts ws → length ts ≡ length ws
