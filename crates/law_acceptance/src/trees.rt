@@ -1,5 +1,5 @@
 //! Split trees: where items go, how often each is asked, and at which tests.
-ghost use Rattle.std.specs.Prelude.{◌≡◌, ◌<◌, ℕ, List, length, slice_index, IfOk};
+ghost use Rattle.std.specs.Prelude.{◌≡◌, ◌<◌, ℕ, List, IfOk};
 ghost use Rattle.law_sig.specs.Lists.{Rising};
 ghost use Rattle.law_acceptance.specs.Telling.{truth, above, one_number, IsCounting};
 
