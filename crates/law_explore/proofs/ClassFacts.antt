@@ -33,7 +33,7 @@ pub none_distinct : AreDistinct []
 none_distinct a b v w v_is w_is same = cc
 
 -- a class keeps its vector while the bank grows and vectors are added
-pub class_stays : (parts : SigParts) (old bank : List Tree) (before vectors : List (Vec ℕ Global)) (t : Tree) (class : ℕ) → Grows old bank → Extends before vectors
+class_stays : (parts : SigParts) (old bank : List Tree) (before vectors : List (Vec ℕ Global)) (t : Tree) (class : ℕ) → Grows old bank → Extends before vectors
     → HasVector parts old before t class → HasVector parts bank vectors t class
 class_stays parts old bank before vectors t class grows more has = record {
   vector = has.vector;

@@ -214,7 +214,7 @@ ids_at_next vectors test at d classes ids more v slice reads so_far less is own 
     ∙ ap (ids_at vectors test) (sym (take_next classes at p less there))
 
 -- a class and a test of it are there
-pub id_read : (vectors : List (Vec ℕ Global)) (test at : ℕ) (classes : List ℕ) → Each (IsRead vectors test) classes → at < length classes → IsRead vectors test (slice_index_or classes at 0)
+id_read : (vectors : List (Vec ℕ Global)) (test at : ℕ) (classes : List ℕ) → Each (IsRead vectors test) classes → at < length classes → IsRead vectors test (slice_index_or classes at 0)
 id_read vectors test at classes reads less =
     let p = slice_index_or classes at 0 in each_at (IsRead vectors test) classes at p reads less (get_or_default classes at 0 p less)
 

@@ -62,18 +62,18 @@ fn applied_at(
     vectors: &IndexSet<Vec<u64>>,
     test: u64,
     head: SymId,
-    places: &[usize],
+    classes: &[usize],
 ) -> Result<ValueId, EvalErr>
-    requires read { Each (IsRead vectors.now.keys test) places.now }
-    requires held { AreOf bank.old (ids_at vectors.now.keys test places.now) }
-    requires few { length places.now < 2 ^ 32 }
-    ensures value { IfOk result (IsMadeIn (applied_value tester.now.sig.now head bank.old (ids_at vectors.now.keys test places.now)) bank.new) }
-    ensures over { IsErrOf result EvalErr.Over → applied_value tester.now.sig.now head bank.old (ids_at vectors.now.keys test places.now) ≡ None }
+    requires read { Each (IsRead vectors.now.keys test) classes.now }
+    requires held { AreOf bank.old (ids_at vectors.now.keys test classes.now) }
+    requires few { length classes.now < 2 ^ 32 }
+    ensures value { IfOk result (IsMadeIn (applied_value tester.now.sig.now head bank.old (ids_at vectors.now.keys test classes.now)) bank.new) }
+    ensures over { IsErrOf result EvalErr.Over → applied_value tester.now.sig.now head bank.old (ids_at vectors.now.keys test classes.now) ≡ None }
     ensures grows { Grows bank.old bank.new }
 {
     let mut ids = Seq::new(tester.alloc);
-    for place in places {
-        let Some(vector) = vectors.get_index(*place) else {
+    for class in classes {
+        let Some(vector) = vectors.get_index(*class) else {
             unreachable!()
         };
         ids.push(ValueId(vector.as_slice()[test as usize]))?;
@@ -90,20 +90,20 @@ fn value_over(
     vectors: &IndexSet<Vec<u64>>,
     test: u64,
     term: &Tree,
-    places: &[usize],
+    classes: &[usize],
 ) -> Result<ValueId, EvalErr>
     requires well_formed { IsWellFormed tester.now.sig.now }
     requires pools { ArePools tester.now.sig.now bank.old tester.now.pools.now }
     requires test { test < tests_by tester.now.sig.now }
     requires term { IsTestable tester.now.sig.now term.now }
-    requires args { HasArgVectors tester.now.sig.now bank.old vectors.now.keys term.now places.now }
+    requires args { HasArgVectors tester.now.sig.now bank.old vectors.now.keys term.now classes.now }
     ensures value { IfOk result (IsValue tester.now.sig.now bank.new test term.now) }
     ensures over { IsErrOf result EvalErr.Over → val_by tester.now.sig.now test term.now ≡ None }
     ensures grows { Grows bank.old bank.new }
 {
     match term {
         Tree::Var(..) => tester.value(bank, test, term),
-        Tree::App(head, _) => applied_at(tester, bank, vectors, test, *head, places),
+        Tree::App(head, _) => applied_at(tester, bank, vectors, test, *head, classes),
     }
 }
 
@@ -116,14 +116,14 @@ fn id_at(
     own: u64,
     test: u64,
     term: &Tree,
-    places: &[usize],
+    classes: &[usize],
 ) -> Result<u64, ExploreErr>
     requires well_formed { IsWellFormed tester.now.sig.now }
     requires pools { ArePools tester.now.sig.now bank.old tester.now.pools.now }
     requires test { test < tests_by tester.now.sig.now }
     requires own { val_by tester.now.sig.now own term.now ≡ val_by tester.now.sig.now test term.now }
     requires term { IsTestable tester.now.sig.now term.now }
-    requires args { HasArgVectors tester.now.sig.now bank.old vectors.now.keys term.now places.now }
+    requires args { HasArgVectors tester.now.sig.now bank.old vectors.now.keys term.now classes.now }
     requires ids { AreIds tester.now.sig.now bank.old term.now test ids.now }
     ensures id { IfOk result (λ id. IsValue tester.now.sig.now bank.new test term.now (id_of id)) }
     ensures lacks { IfErr result (IsTold tester.now.sig.now (LacksValue tester.now.sig.now (pools_by tester.now.sig.now) term.now)) }
@@ -132,7 +132,7 @@ fn id_at(
     if own < test {
         return Ok(ids[own as usize]);
     }
-    match value_over(tester, bank, vectors, test, term, places) {
+    match value_over(tester, bank, vectors, test, term, classes) {
         Ok(id) => Ok(id.0),
         Err(EvalErr::Over) => Err(over(tester.alloc, tester.sig, term, test)),
         Err(EvalErr::NoMemory) => Err(ExploreErr::NoMemory),
@@ -145,12 +145,12 @@ fn ids_of(
     bank: &mut ValueBank,
     vectors: &IndexSet<Vec<u64>>,
     term: &Tree,
-    places: &[usize],
+    classes: &[usize],
 ) -> Result<Vec<u64>, ExploreErr>
     requires well_formed { IsWellFormed tester.now.sig.now }
     requires pools { ArePools tester.now.sig.now bank.old tester.now.pools.now }
     requires term { IsTestable tester.now.sig.now term.now }
-    requires args { HasArgVectors tester.now.sig.now bank.old vectors.now.keys term.now places.now }
+    requires args { HasArgVectors tester.now.sig.now bank.old vectors.now.keys term.now classes.now }
     ensures ids { IfOk result (λ ids. AreIds tester.now.sig.now bank.new term.now (tests_by tester.now.sig.now) ids.items) }
     ensures lacks { IfErr result (IsTold tester.now.sig.now (LacksValue tester.now.sig.now (pools_by tester.now.sig.now) term.now)) }
     ensures grows { Grows bank.old bank.new }
@@ -167,7 +167,7 @@ fn ids_of(
             first,
             test,
             term,
-            places,
+            classes,
         )?;
         let Ok(()) = ids.push(id) else {
             return Err(ExploreErr::NoMemory);
@@ -182,17 +182,17 @@ fn vector(
     bank: &mut ValueBank,
     vectors: &IndexSet<Vec<u64>>,
     term: &Tree,
-    places: &[usize],
+    classes: &[usize],
 ) -> Result<Vec<u64>, ExploreErr>
     requires well_formed { IsWellFormed tester.now.sig.now }
     requires pools { ArePools tester.now.sig.now bank.old tester.now.pools.now }
     requires term { IsTestable tester.now.sig.now term.now }
-    requires args { HasArgVectors tester.now.sig.now bank.old vectors.now.keys term.now places.now }
+    requires args { HasArgVectors tester.now.sig.now bank.old vectors.now.keys term.now classes.now }
     ensures vector { IfOk result (λ vector. IsVector tester.now.sig.now bank.new term.now vector.items) }
     ensures lacks { IfErr result (IsTold tester.now.sig.now (LacksValue tester.now.sig.now (pools_by tester.now.sig.now) term.now)) }
     ensures grows { Grows bank.old bank.new }
 {
-    let mut vector = ids_of(tester, bank, vectors, term, places)?;
+    let mut vector = ids_of(tester, bank, vectors, term, classes)?;
     let Some(sort) = tester.sig.sort_of(term) else {
         unreachable!()
     };
@@ -211,12 +211,12 @@ fn asked_class(
     bank: &mut ValueBank,
     vectors: &mut IndexSet<Vec<u64>>,
     term: &Tree,
-    places: &[usize],
+    classes: &[usize],
 ) -> Result<usize, ExploreErr>
     requires well_formed { IsWellFormed tester.now.sig.now }
     requires pools { ArePools tester.now.sig.now bank.old tester.now.pools.now }
     requires term { IsTestable tester.now.sig.now term.now }
-    requires args { HasArgVectors tester.now.sig.now bank.old vectors.old.keys term.now places.now }
+    requires args { HasArgVectors tester.now.sig.now bank.old vectors.old.keys term.now classes.now }
     requires distinct { AreDistinct vectors.old.keys }
     ensures class { IfOk result (HasVector tester.now.sig.now bank.new vectors.new.keys term.now) }
     ensures lacks { IfErr result (IsTold tester.now.sig.now (LacksValue tester.now.sig.now (pools_by tester.now.sig.now) term.now)) }
@@ -224,7 +224,7 @@ fn asked_class(
     ensures distinct { IfOk result (λ class. AreDistinct vectors.new.keys) }
     ensures extends { IfOk result (λ class. Extends vectors.old.keys vectors.new.keys) }
 {
-    let found = vector(tester, bank, vectors, term, places)?;
+    let found = vector(tester, bank, vectors, term, classes)?;
     let Ok((class, _)) = vectors.insert_full(found) else {
         return Err(ExploreErr::NoMemory);
     };
@@ -232,15 +232,15 @@ fn asked_class(
 }
 
 /// A symbol and classes of arguments as a word.
-fn word(alloc: Global, head: SymId, places: &[usize]) -> Result<Vec<u64>, NoMemory>
-    ensures { IfOk result (λ word. word.items ≡ head.0 ∷ places.now) }
+fn word(alloc: Global, head: SymId, classes: &[usize]) -> Result<Vec<u64>, NoMemory>
+    ensures { IfOk result (λ word. word.items ≡ head.0 ∷ classes.now) }
 {
     let mut word = Vec::new(alloc);
     let Ok(()) = word.push(head.0 as u64) else {
         return Err(NoMemory);
     };
-    for place in places {
-        let Ok(()) = word.push(*place as u64) else {
+    for class in classes {
+        let Ok(()) = word.push(*class as u64) else {
             return Err(NoMemory);
         };
     }
@@ -280,12 +280,12 @@ fn class(
     vectors: &mut IndexSet<Vec<u64>>,
     made: &mut IndexMap<Vec<u64>, usize>,
     term: &Tree,
-    places: &[usize],
+    classes: &[usize],
 ) -> Result<usize, ExploreErr>
     requires well_formed { IsWellFormed tester.now.sig.now }
     requires pools { ArePools tester.now.sig.now bank.old tester.now.pools.now }
     requires term { IsTestable tester.now.sig.now term.now }
-    requires args { HasArgVectors tester.now.sig.now bank.old vectors.old.keys term.now places.now }
+    requires args { HasArgVectors tester.now.sig.now bank.old vectors.old.keys term.now classes.now }
     requires distinct { AreDistinct vectors.old.keys }
     requires made { Remembers tester.now.sig.now bank.old vectors.old.keys (get same_items made.old) }
     ensures class { IfOk result (HasVector tester.now.sig.now bank.new vectors.new.keys term.now) }
@@ -296,13 +296,13 @@ fn class(
     ensures made { IfOk result (λ class. Remembers tester.now.sig.now bank.new vectors.new.keys (get same_items made.new)) }
 {
     let Tree::App(head, _) = term else {
-        return asked_class(tester, bank, vectors, term, places);
+        return asked_class(tester, bank, vectors, term, classes);
     };
-    let word = word(tester.alloc, *head, places)?;
+    let word = word(tester.alloc, *head, classes)?;
     if let Some(class) = recalled(made, &word) {
         return Ok(class);
     }
-    let class = asked_class(tester, bank, vectors, term, places)?;
+    let class = asked_class(tester, bank, vectors, term, classes)?;
     remember(made, word, class)?;
     Ok(class)
 }
@@ -324,14 +324,14 @@ pub fn classes_of(
     let mut made = IndexMap::new(tester.alloc);
     let mut classes = Vec::new(tester.alloc);
     for term in terms.as_slice() {
-        let places = arg_classes(tester.alloc, terms, classes.as_slice(), term)?;
+        let below = arg_classes(tester.alloc, terms, classes.as_slice(), term)?;
         let found = class(
             tester,
             bank,
             &mut vectors,
             &mut made,
             term,
-            places.as_slice(),
+            below.as_slice(),
         )?;
         let Ok(()) = classes.push(found) else {
             return Err(ExploreErr::NoMemory);

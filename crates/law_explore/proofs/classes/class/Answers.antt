@@ -12,7 +12,7 @@ returns-in_default-clause-made c =
 pub returns-in-Some-clause-class : goal.returns-in-Some-clause-class
 returns-in-Some-clause-class c =
     class_recalled c.args.tester.now.sig.now c.requires.well_formed c.args.bank.now c.args.vectors.now.keys (get same_items c.args.made.now) c.requires.made c.in_ok-word.word c.recalled.result
-    c.in-Some.class c.recalled.ensures c.in-Some.is c.args.term.now c.in-App.head c.in-App.field-1 c.args.places.now c.requires.term c.in-App.is c.requires.args c.in_ok-word.ensures
+    c.in-Some.class c.recalled.ensures c.in-Some.is c.args.term.now c.in-App.head c.in-App.field-1 c.args.classes.now c.requires.term c.in-App.is c.requires.args c.in_ok-word.ensures
 
 pub returns-in-Some-clause-grows : goal.returns-in-Some-clause-grows
 returns-in-Some-clause-grows c = grows_not c.args.bank.now
@@ -23,10 +23,10 @@ returns-in-Some-clause-extends c = extends_not c.args.vectors.now.keys
 pub returns-clause-made : goal.returns-clause-made
 returns-clause-made c =
     class_learned c.args.tester.now.sig.now c.asked_class-2.new.bank c.asked_class-2.new.vectors.keys (get same_items c.args.made.now) (get same_items c.remember.new.made) c.in_ok-word.word
-    c.in_ok-class.class c.args.term.now c.in-App.head c.in-App.field-1 c.args.places.now
+    c.in_ok-class.class c.args.term.now c.in-App.head c.in-App.field-1 c.args.classes.now
     (remembers_stay c.args.tester.now.sig.now c.args.bank.now c.asked_class-2.new.bank c.args.vectors.now.keys c.asked_class-2.new.vectors.keys (get same_items c.args.made.now)
     c.asked_class-2.ensures.grows c.in_ok-class.ensures.extends c.requires.made)
     c.in_ok-remember.ensures c.requires.term c.in-App.is
-    (arg_vectors_stay c.args.tester.now.sig.now c.args.bank.now c.asked_class-2.new.bank c.args.vectors.now.keys c.asked_class-2.new.vectors.keys c.args.term.now c.args.places.now
+    (arg_vectors_stay c.args.tester.now.sig.now c.args.bank.now c.asked_class-2.new.bank c.args.vectors.now.keys c.asked_class-2.new.vectors.keys c.args.term.now c.args.classes.now
     c.asked_class-2.ensures.grows c.in_ok-class.ensures.extends c.requires.args)
     c.in_ok-word.ensures c.in_ok-class.ensures.class

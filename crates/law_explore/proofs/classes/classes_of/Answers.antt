@@ -47,8 +47,8 @@ class-requires-clause-args c =
     c.loop-term.bank c.loop-term.vectors.keys c.loop-term.classes.items
     (subst (λ l. Both (HasVector c.args.tester.now.sig.now c.loop-term.bank c.loop-term.vectors.keys) (take c.loop-term.term-index l) c.loop-term.classes.items) c.as_slice-term-items.ensures
     c.loop-term.invariant.have)
-    c.settings-well_formed.ensures.well_formed c.in_ok-places.places c.as_slice-in-loop-term.result.now
-    (subst (λ l. HasArgClasses c.args.terms.now l c.term-item.result c.in_ok-places.places) c.as_slice.ensures.value c.in_ok-places.ensures) c.as_slice-in-loop-term.ensures
+    c.settings-well_formed.ensures.well_formed c.in_ok-below.below c.as_slice-in-loop-term.result.now
+    (subst (λ l. HasArgClasses c.args.terms.now l c.term-item.result c.in_ok-below.below) c.as_slice.ensures.value c.in_ok-below.ensures) c.as_slice-in-loop-term.ensures
 
 pub returns-in_err-found-clause-lacks : goal.returns-in_err-found-clause-lacks
 returns-in_err-found-clause-lacks c =

@@ -29,7 +29,7 @@ id_at-requires-clause-own c =
 
 pub id_at-requires-clause-args : goal.id_at-requires-clause-args
 id_at-requires-clause-args c =
-    args_stay c.args.tester.now.sig.now c.args.bank.now c.loop-test.bank c.args.vectors.now.keys c.args.term.now c.args.places.now c.loop-test.invariant.grows c.requires.args
+    args_stay c.args.tester.now.sig.now c.args.bank.now c.loop-test.bank c.args.vectors.now.keys c.args.term.now c.args.classes.now c.loop-test.invariant.grows c.requires.args
 
 pub id_at-requires-clause-ids : goal.id_at-requires-clause-ids
 id_at-requires-clause-ids c =
