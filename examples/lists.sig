@@ -1,12 +1,12 @@
 signature 2
 size 5
-budget 200
+budget 2000
 pairs 20
-pools seed 7 height 5 count 16
-sort Elem 0 1
+pools seed 7 height 6 count 16
+sort Elem 0 2
 con A
 con B
-sort List 2 2
+sort List 3 3
 con Nil
 con Cons Elem List
 fun append List List -> List
