@@ -1,5 +1,5 @@
 -- What a reader that stops has found: the first line without a reading.
-use Rattle.std.proofs.Common.{◌≡◌, ℕ, zero, suc, ◌+◌, ◌-◌, ◌^◌, ◌<◌, min, take, drop, get_or, List, [], ◌∷◌, ◌++◌, Some, None, Result, Ok, Err, IfErr, MatchResult, inl, inr, ◌⊎◌, refl, ap, sym, subst, ◌∙◌, arith, length}
+use Rattle.std.proofs.Common.{◌≡◌, ℕ, List, [], ◌∷◌, ◌++◌, Some, Result, Ok, Err, IfErr, MatchResult, inl, inr, ◌⊎◌, refl, ap, sym, subst, ◌∙◌}
 use Rattle.std.proofs.lemmas.List.{append_assoc}
 use Rattle.std.specs.List.{AllByRecursion}
 use Rattle.std.specs.Result.{IsErrAnd}
