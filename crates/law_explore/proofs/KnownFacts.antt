@@ -29,7 +29,7 @@ use Rattle.law_explore.specs.Universe.{IsUniverse}
 use Rattle.law_explore.specs.Refusals.{Refusal, LacksValue, HasLackingTerm}
 use Rattle.law_explore.specs.Values.{IsVector, AreVectors, IsKnown, HasKnownArgs, HasVector, items_of}
 use Rattle.law_explore.proofs.LawFacts.{some_is, mapped_some}
-use Rattle.law_explore.proofs.Rising.{place_of, at_place, rising_places}
+use Rattle.law_listing.proofs.Rising.{place_of, at_place, rising_places}
 use Rattle.law_explore.proofs.VectorFacts.{vector_stays}
 
 get_take : {A : Type 0} (xs : List A) (n k : ℕ) (x : A) → k < n → slice_get xs k ≡ Some x → slice_get (take n xs) k ≡ Some x
