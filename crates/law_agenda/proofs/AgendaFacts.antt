@@ -1,12 +1,10 @@
 -- What an agenda knows, and what it knows after a step.
-use Rattle.std.proofs.Common.{◌≡◌, ℕ, zero, suc, ◌<◌, ◌≤◌, ◌⊎◌, ◌↔◌, inl, inr, List, [], ◌∷◌, Option, Some, None, refl, sym, ◌∙◌, subst, arith}
+use Rattle.std.proofs.Common.{◌≡◌, ◌↔◌, List, [], ◌∷◌, Option, Some, None, sym, ◌∙◌, subst}
 use Rattle.std.specs.Option.{MatchOption}
-use Rattle.law_sig.specs.Tests.{weight}
 use Rattle.law_sig.specs.Order.{IsBefore}
 use Rattle.law_sig.specs.declared.tree.Tree.{Tree}
 use Rattle.law_sig.specs.declared.parts.SigParts.{SigParts}
 use Rattle.law_laws.proofs.ListFacts.{in_none, in_left}
-use Rattle.law_laws.proofs.Orders.{never_before_itself, before_chain}
 use Rattle.law_sig.specs.Expected.{IsFirstAbove, IsSpent}
 use Rattle.law_sig.specs.Schemas.{IsConsidered}
 use Rattle.law_valid.specs.Order.{Block, IsBlockSpent, IsNextTerm, Progress, at_start, after_killed, IsSchemaNext, AreSpent, IsTermNext, IsTermSpent, IsSchemaTurn, IsTermTurn}
@@ -19,22 +17,7 @@ use Rattle.law_agenda.specs.declared.stores.Store.{Store}
 use Rattle.law_agenda.specs.Candidates.{IsCandidate}
 use Rattle.law_agenda.specs.Stores.{IsStore, IsItem, IsFitting}
 use Rattle.law_agenda.specs.Agendas.{IsReady, IsStage, IsAt}
-use Rattle.law_listing.proofs.Staging.{first_after, spent_after}
-use Rattle.std.proofs.Math.Nat.{eq-or-lt_of_le}
-use Rattle.law_sig.specs.WellFormed.{IsWellFormed}
-use Rattle.law_laws.proofs.TreeFacts.{weight-Var, weight-App}
-use Rattle.law_laws.proofs.Descents.{weighs_something}
-use Rattle.law_sig.specs.Schemas.IsConsidered.{variable, application}
-use Rattle.law_listing.specs.Stages.{kind, FromStage}
-
--- the first one is one alone
-pub first_one : (parts : SigParts) (P : Tree → Type 0) (done : List Tree) (x y : Tree) → IsFirstAbove (IsBefore parts) P done x → IsFirstAbove (IsBefore parts) P done y → x ≡ y
-first_one parts P done x y f g = by (f.least y g.is g.above) (g.least x f.is f.above)
-  where
-    by : (y ≡ x) ⊎ IsBefore parts x y → (x ≡ y) ⊎ IsBefore parts y x → x ≡ y
-    by (inl e) d = sym e
-    by (inr h) (inl e) = e
-    by (inr h) (inr k) = absurd (never_before_itself parts x (before_chain parts x y x h k))
+use Rattle.law_listing.proofs.Staging.{first_one, first_after, spent_after}
 
 pub term_one : (parts : SigParts) (lives : List Tree) (o : Option Block) (s t : Tree) → IsNextTerm parts lives o s → IsNextTerm parts lives o t → s ≡ t
 term_one parts lives None s t f g = absurd f
@@ -112,22 +95,3 @@ killed a b p c r next store_is items l found = record {
         → MatchOption o (AreSpent (after_killed p c)) (λ k. (d : Tree) × IsCandidate p.parts b.store.shelf b.store.weight k d × IsSchemaNext (after_killed p c) d)
     by None h = spent_after p.parts (IsConsidered p.parts p.spreads) p.schemas c h
     by (Some k) (d, d_is, first) = (d, d_is, first_after p.parts (IsConsidered p.parts p.spreads) p.schemas c d next.above first)
-
--- every considered schema is at the first stage or a later one
-pub all_stages : (parts : SigParts) (spreads : List Tree) → IsWellFormed parts → (y : Tree) → IsConsidered parts spreads y → FromStage parts 1 0 0 y
-all_stages parts spreads formed y considered =
-    let h = positive considered in
-    by (eq-or-lt_of_le h) (zero_or (kind y))
-  where
-    positive : {y : Tree} → IsConsidered parts spreads y → 1 ≤ weight parts y
-    positive (variable sort declared some) = let e = weight-Var parts sort 0 in omega arith
-    positive (application f cs sort explored each sorted small) = let e = weight-App parts f cs in let g = weighs_something parts formed f in omega arith
-
-    zero_or : (n : ℕ) → (0 ≡ n) ⊎ (0 < n)
-    zero_or zero = inl refl
-    zero_or (suc n) = inr (omega arith)
-
-    by : (1 ≡ weight parts y) ⊎ (1 < weight parts y) → (0 ≡ kind y) ⊎ (0 < kind y) → FromStage parts 1 0 0 y
-    by (inr l) d = inl l
-    by (inl e) (inr l) = inr (e, inl l)
-    by (inl e) (inl k) = inr (e, inr (k, omega arith))

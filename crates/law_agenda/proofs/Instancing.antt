@@ -1,5 +1,5 @@
 -- Rows of picks from ranges of live terms stand for the instances of a schema.
-use Rattle.std.proofs.Common.{◌≡◌, ℕ, zero, suc, ◌+◌, ◌-◌, ◌<◌, ◌≤◌, ◌⊎◌, inl, inr, true, List, [], ◌∷◌, length, map, take, drop, Some, refl, sym, ap, ap₂, ◌∙◌, subst, subst₂, arith}
+use Rattle.std.proofs.Common.{◌≡◌, ℕ, zero, suc, ◌+◌, ◌-◌, ◌<◌, ◌≤◌, ◌⊎◌, inl, inr, true, List, [], ◌∷◌, length, map, drop, length-take, length-drop, Some, refl, sym, ap, ap₂, ◌∙◌, subst, subst₂, arith}
 use Rattle.law_sig.specs.Lists.{In}
 use Rattle.law_sig.specs.Signature.{vars_at}
 use Rattle.law_sig.specs.Tests.{is_bounded}
@@ -30,18 +30,8 @@ use Rattle.law_listing.proofs.Instances.{instances_stand, vars_stand}
 
 -- Counts
 
-length_drop : (xs : List Tree) (n : ℕ) → length (drop n xs) ≡ length xs - n
-length_drop xs zero = omega arith
-length_drop [] (suc n) = omega arith
-length_drop (x ∷ xs) (suc n) = let h = length_drop xs n in omega arith
-
-length_take : (xs : List Tree) (n : ℕ) → n ≤ length xs → length (take n xs) ≡ n
-length_take xs zero h = refl
-length_take [] (suc n) h = absurd (omega arith)
-length_take (x ∷ xs) (suc n) h = ap suc (length_take xs n (omega arith))
-
 piece_length : (lives : List Tree) (r : Range) → r.to ≤ length lives → length (piece lives r) ≡ r.to - r.from
-piece_length lives r h = length_take (drop r.from lives) (r.to - r.from) (let k = length_drop lives r.from in omega arith)
+piece_length lives r h = let k = length-drop r.from lives in let t = length-take (r.to - r.from) (drop r.from lives) in omega arith
 
 pub counts_are : (parts : SigParts) (lives : List Tree) (cs : List Tree) (rs : List Range) → AreRanges parts lives cs rs → range_counts rs ≡ counts_of (pieces lives rs)
 counts_are parts lives [] [] h = refl

@@ -1,6 +1,7 @@
 -- What is in a store stays in it.
 use Rattle.std.proofs.Common.{◌≡◌, ℕ, zero, suc, ◌<◌, ◌≤◌, ◌⊎◌, inl, inr, Bool, true, false, cond, List, [], ◌∷◌, ◌++◌, length, IsTrue, Some, slice_get, slice_index_or, refl, sym, ap, ◌∙◌, subst, arith}
 use Rattle.std.specs.List.{filter}
+use Rattle.std.proofs.lemmas.List.{get_or_past, get_or_push, get_or_append_left}
 use Rattle.law_sig.specs.Lists.{In, Each, Rising}
 use Rattle.law_sig.specs.Lists.In.{here, there}
 use Rattle.law_sig.specs.declared.tree.SortId.{SortId}
@@ -26,8 +27,7 @@ use Rattle.law_laws.proofs.TreeFacts.{weight-Var}
 use Rattle.law_laws.proofs.Sorts.{var_sorted}
 use Rattle.law_agenda.proofs.Seeking.{here_of}
 use Rattle.law_listing.proofs.Applications.{considered_schema}
-use Rattle.law_listing.proofs.PickFacts.{at_kept, at_end}
-use Rattle.law_agenda.proofs.Storing.{past_end, longer, row_at, row_past}
+use Rattle.law_agenda.proofs.Storing.{place, longer, row_at, row_past}
 
 kept_in : (f : Spread → Bool) (xs : List Spread) (e : Spread) → In e (filter f xs) → In e xs
 kept_in f [] e at = at
@@ -40,17 +40,6 @@ kept_in f (x ∷ xs) e at = by (kept_in f xs e) (f x) at
     ]
     by rest false at = there (rest at)
 
-place : (n m : ℕ) → (n < m) ⊎ ((n ≡ m) ⊎ (m < n))
-place zero zero = inr (inl refl)
-place zero (suc m) = inl (omega arith)
-place (suc n) zero = inr (inr (omega arith))
-place (suc n) (suc m) = up (place n m)
-  where
-    up : (n < m) ⊎ ((n ≡ m) ⊎ (m < n)) → (suc n < suc m) ⊎ ((suc n ≡ suc m) ⊎ (suc m < suc n))
-    up (inl l) = inl (omega arith)
-    up (inr (inl e)) = inr (inl (ap suc e))
-    up (inr (inr l)) = inr (inr (omega arith))
-
 abbrev New : SigParts → Store → List (List Spread)
 New parts store = sorted_out parts store.level (length parts.sort_names)
 
@@ -58,17 +47,17 @@ shelved : (parts : SigParts) (store : Store) (e : Spread) → IsShelved (store.s
 shelved parts store e h = by (place h.own (length store.shelf)) (place h.sort.0 (length parts.sort_names))
   where
     fresh : h.own ≡ length store.shelf → bucket (store.shelf ++ New parts store ∷ []) h.own h.sort ≡ slice_index_or (New parts store) h.sort.0 []
-    fresh same = ap (λ l. slice_index_or l h.sort.0 []) (at_end store.shelf (New parts store) h.own [] same)
+    fresh same = ap (λ l. slice_index_or l h.sort.0 []) (get_or_push store.shelf (New parts store) [] h.own (sym same))
 
     by : (h.own < length store.shelf) ⊎ ((h.own ≡ length store.shelf) ⊎ (length store.shelf < h.own))
         → (h.sort.0 < length parts.sort_names) ⊎ ((h.sort.0 ≡ length parts.sort_names) ⊎ (length parts.sort_names < h.sort.0)) → IsItem store e
-    by (inl less) d = inr (record { own = h.own; sort = h.sort; at = subst (In e) (ap (λ l. slice_index_or l h.sort.0 []) (at_kept store.shelf (New parts store ∷ []) h.own [] less)) h.at })
+    by (inl less) d = inr (record { own = h.own; sort = h.sort; at = subst (In e) (ap (λ l. slice_index_or l h.sort.0 []) (get_or_append_left store.shelf (New parts store ∷ []) [] h.own less)) h.at })
     by (inr (inl same)) (inl l) = inl (kept_in (is_of_sort parts h.sort) store.level e (subst (In e) (fresh same ∙ row_at parts store.level (length parts.sort_names) h.sort l) h.at))
     by (inr (inl same)) (inr (inl k)) = in_none (subst (In e) (fresh same ∙ row_past parts store.level (length parts.sort_names) h.sort (omega arith)) h.at)
     by (inr (inl same)) (inr (inr k)) = in_none (subst (In e) (fresh same ∙ row_past parts store.level (length parts.sort_names) h.sort (omega arith)) h.at)
     by (inr (inr past)) d =
         let k = longer store.shelf (New parts store) in
-        in_none (subst (In e) (ap (λ l. slice_index_or l h.sort.0 []) (past_end (store.shelf ++ New parts store ∷ []) h.own [] (omega arith))) h.at)
+        in_none (subst (In e) (ap (λ l. slice_index_or l h.sort.0 []) (get_or_past (store.shelf ++ New parts store ∷ []) h.own [] (omega arith))) h.at)
 
 pub heavier_items : (parts : SigParts) (store more : Store) → more.level ≡ [] → more.shelf ≡ store.shelf ++ sorted_out parts store.level (length parts.sort_names) ∷ [] → HasNoOther store more
 heavier_items parts store more l s e (inl at) = in_none (subst (In e) l at)

@@ -1,23 +1,18 @@
 -- The first and the next candidate of a symbol, and from a symbol on.
-use Rattle.std.proofs.Common.{◌≡◌, ℕ, suc, ◌-◌, ◌<◌, ◌≤◌, ◌⊎◌, inl, inr, false, true≢false, List, [], ◌∷◌, length, Option, Some, None, IsTrue, option_map, refl, sym, ap, ◌∙◌, subst, subst₂, arith}
-use Rattle.law_sig.specs.Lists.{In}
+use Rattle.std.proofs.Common.{◌≡◌, ℕ, ◌-◌, ◌<◌, ◌≤◌, List, [], ◌∷◌, length, Option, Some, None, IsTrue, option_map, refl, sym, ap, ◌∙◌, subst, subst₂, arith}
 use Rattle.law_sig.specs.Signature.{symbol_at, args_of, weight_at}
-use Rattle.law_sig.specs.Tests.{weight, is_explored}
+use Rattle.law_sig.specs.Tests.{is_explored}
 use Rattle.law_sig.specs.Order.{IsBefore}
 use Rattle.law_sig.specs.declared.tree.SymId.{SymId}
 use Rattle.law_sig.specs.declared.tree.Tree.{Tree}
-use Rattle.law_sig.specs.declared.tree.Tree.TheVariants.{App, outs-Var, outs-App}
+use Rattle.law_sig.specs.declared.tree.Tree.TheVariants.{App}
 use Rattle.law_sig.specs.declared.parts.Sym.{Sym}
 use Rattle.law_sig.specs.declared.parts.SigParts.{SigParts}
-use Rattle.law_laws.proofs.TreeFacts.{weight-App}
-use Rattle.law_laws.proofs.ListFacts.{of_each}
-use Rattle.law_laws.proofs.Universe.{listed_in}
 use Rattle.law_laws.proofs.BodyFacts.{some_is, none_is}
 use Rattle.law_sig.specs.declared.tree.SortId.{SortId}
 use Rattle.std.specs.Option.{MatchOption}
 use Rattle.law_sig.specs.Expected.{IsFirstAbove, IsSpent}
 use Rattle.law_sig.specs.Schemas.{IsConsidered}
-use Rattle.law_sig.specs.Schemas.IsConsidered.{variable, application}
 use Rattle.law_agenda.specs.declared.candidates.Candidate.{Candidate}
 use Rattle.law_agenda.specs.declared.candidates.Candidate.TheVariants as candidate
 use Rattle.law_listing.specs.declared.pick.Pick.{Pick}
@@ -26,13 +21,13 @@ use Rattle.law_listing.specs.Rows.{Lex}
 use Rattle.law_listing.specs.Picks.{IsLower, IsRow}
 use Rattle.law_listing.specs.Choices.{counts_of, IsTermOf}
 use Rattle.law_agenda.specs.Shelves.{Shelf, column, lists_at, lists_for, sorts_of}
-use Rattle.law_listing.specs.Stages.{kind_in, number_in, AtStage, FromStage, Here, Onward}
+use Rattle.law_listing.specs.Stages.{Here, NoneUpTo}
 use Rattle.law_agenda.specs.Walking.{IsWalk}
 use Rattle.law_agenda.specs.Candidates.{IsApplication, IsStock, FirstOf, NextOf, FirstFrom}
 use Rattle.law_listing.proofs.Transfer.{StandFor, spent_first, spent_next, first_first, next_next}
 use Rattle.law_listing.proofs.Picking.{item_at, row_picks}
-use Rattle.law_listing.proofs.Staging.{stage_split, stage_found, first_same}
-use Rattle.law_listing.proofs.Applications.{IsApplied, usable, applied_at, considered_over, considered_schema, stands}
+use Rattle.law_listing.proofs.Applications.{usable, stands}
+use Rattle.law_listing.proofs.Stepping.{found_from_here}
 use Rattle.law_agenda.proofs.Columns.{columns_are, lists_are}
 
 module _ (parts : SigParts) (spreads : List Tree) (shelf : Shelf) (w : ℕ) (stock : IsStock parts spreads shelf w) where
@@ -49,22 +44,6 @@ module _ (parts : SigParts) (spreads : List Tree) (shelf : Shelf) (w : ℕ) (sto
       subst (λ l. StandFor (Lex IsLower) (IsBefore parts) (IsRow (counts_of l) (w - weight_at parts f)) (Terms f) (IsTermOf l f)) (sym (lists_are parts shelf f symbol is))
       (stands parts spreads (length shelf) (column shelf) stock.schemas (columns_are parts spreads shelf stock.schemas stock.shelf_is) w f symbol
       (usable parts w f symbol stock.formed is explored heavy) (omega arith) stock.small)
-
-  applied : (f : SymId) (y : Tree) → Terms f y → IsApplied parts (λ c. In c spreads) w f y
-  applied f y is = applied_at parts (λ c. In c spreads) w f y (considered_over parts spreads y is.0) is.1
-
-  -- none, where the symbol is too heavy or not explored
-  pub none_too_heavy : (f : SymId) → w < weight_at parts f → IsSpent (IsBefore parts) (Terms f) []
-  none_too_heavy f less y y_is above =
-      let a = applied f y y_is in
-      let e = weight-App parts f a.args in
-      let d = a.weight_is in
-      omega arith
-
-  pub none_not_explored : (f : SymId) → is_explored parts f ≡ false → IsSpent (IsBefore parts) (Terms f) []
-  none_not_explored f e y y_is above =
-      let a = applied f y y_is in
-      absurd (true≢false (sym a.explored ∙ e))
 
   application_of : (f : SymId) (walk : Walk) (t : Tree) → f.0 < length parts.symbols → IsTrue (is_explored parts f) → weight_at parts f ≤ w
       → IsWalk walk (counts_of (lists_at parts shelf f)) (w - weight_at parts f) → IsTermOf (lists_at parts shelf f) f walk.row t → IsApplication parts shelf w f walk t
@@ -107,47 +86,9 @@ module _ (parts : SigParts) (spreads : List Tree) (shelf : Shelf) (w : ℕ) (sto
 
   -- From a symbol on
 
-  -- none is before this symbol
-  abbrev pub NoneUpTo : ℕ → ℕ → Type 0
-  NoneUpTo from n = (y : Tree) → IsConsidered parts spreads y → FromStage parts w 1 from y → FromStage parts w 1 n y
-
-  pub one_symbol_more : (from n : ℕ) → NoneUpTo from n → IsSpent (IsBefore parts) (Here parts (IsConsidered parts spreads) w 1 n) [] → NoneUpTo from (suc n)
-  one_symbol_more from n none spent y considered stage = by (stage_split parts w 1 n y (none y considered stage))
-    where
-      by : AtStage parts w 1 n y ⊎ FromStage parts w 1 (suc n) y → FromStage parts w 1 (suc n) y
-      by (inl at) = absurd (spent y (considered, at) tt)
-      by (inr later) = later
-
-  pub later_stage : (from n : ℕ) (y : Tree) → from ≤ n → FromStage parts w 1 n y → FromStage parts w 1 from y
-  later_stage from n y upto (inl lighter) = inl lighter
-  later_stage from n y upto (inr (same, inl less)) = inr (same, inl less)
-  later_stage from n y upto (inr (same, inr (alike, above))) = inr (same, inr (alike, omega arith))
-
-  pub first_from_here : (from n : ℕ) (c : Candidate) → from ≤ n → NoneUpTo from n → FirstOf parts shelf w (Here parts (IsConsidered parts spreads) w 1 n) (Some c)
+  pub first_from_here : (from n : ℕ) (c : Candidate) → from ≤ n → NoneUpTo parts (IsConsidered parts spreads) w from n → FirstOf parts shelf w (Here parts (IsConsidered parts spreads) w 1 n) (Some c)
       → FirstFrom parts spreads shelf w from (Some c)
-  first_from_here from n c upto none (t, is, first) = (
-    t,
-    is,
-    first_same (IsBefore parts) (Onward parts (IsConsidered parts spreads) w 1 n) (Onward parts (IsConsidered parts spreads) w 1 from) [] t
-        (λ y y_is. (y_is.0, later_stage from n y upto y_is.1)) (λ y y_is. (y_is.0, none y y_is.0 y_is.1))
-        (stage_found parts (IsConsidered parts spreads) (λ y considered. considered_schema parts spreads y stock.schemas considered) w 1 n t first),
-  )
-
-  pub none_from_here : (from n : ℕ) → length parts.symbols ≤ n → NoneUpTo from n → FirstFrom parts spreads shelf w from None
-  none_from_here from n past none y considered stage = by considered (none y considered stage)
-    where
-      by : {y : Tree} → IsConsidered parts spreads y → FromStage parts w 1 n y → w < weight parts y
-      by c (inl lighter) = lighter
-      by (variable sort declared some) (inr (same, inl less)) =
-          let e = ap kind_in (outs-Var sort 0) in omega arith
-      by (variable sort declared some) (inr (same, inr (alike, above))) =
-          let e = ap kind_in (outs-Var sort 0) in omega arith
-      by (application f cs sort explored each sorted small) (inr (same, inl less)) =
-          let e = ap kind_in (outs-App f cs) in omega arith
-      by (application f cs sort explored each sorted small) (inr (same, inr (alike, above))) =
-          let e = ap number_in (outs-App f cs) in
-          let h = of_each (λ (g : SymId). g.0 < length parts.symbols) (listed_in f parts.settings.explored explored) stock.formed.settings.explored_declared in
-          omega arith
+  first_from_here from n c upto none (t, is, first) = (t, is, found_from_here parts spreads w from n t stock.schemas upto none first)
 
   -- by the code's names for the choices and for the symbol's weight
   pub started : (f : SymId) (walk : Walk) (choices : List (List ℕ)) (own : ℕ) → f.0 < length parts.symbols → IsTrue (is_explored parts f) → own ≡ weight_at parts f → own ≤ w

@@ -34,9 +34,9 @@ use Rattle.law_agenda.specs.Agendas.{IsReady, IsGoing, IsStage, IsAt, IsFinished
 use Rattle.law_listing.proofs.Rising.{at_place}
 use Rattle.law_agenda.proofs.Columns.{column_at}
 use Rattle.law_agenda.proofs.Seeking.{some_case}
-use Rattle.law_listing.proofs.Staging.{first_after, spent_after}
+use Rattle.law_listing.proofs.Staging.{first_one, first_after, spent_after}
 use Rattle.law_agenda.proofs.Items.{candidate_weight, considered_sort}
-use Rattle.law_agenda.proofs.AgendaFacts.{first_one, fitting_of}
+use Rattle.law_agenda.proofs.AgendaFacts.{fitting_of}
 
 -- The ranges of what a row picks
 

@@ -2,7 +2,7 @@
 use Rattle.std.specs.Prelude.{◌≡◌, ℕ, ◌-◌, ◌<◌, ◌≤◌, List, [], ◌∷◌, length, Option, IsTrue}
 use Rattle.std.specs.Option.{MatchOption}
 use Rattle.law_sig.specs.Signature.{weight_at}
-use Rattle.law_sig.specs.Tests.{weight, is_explored}
+use Rattle.law_sig.specs.Tests.{is_explored}
 use Rattle.law_sig.specs.Order.{IsBefore}
 use Rattle.law_sig.specs.WellFormed.{IsWellFormed}
 use Rattle.law_sig.specs.declared.tree.SymId.{SymId}
@@ -16,7 +16,7 @@ use Rattle.law_agenda.specs.declared.candidates.Candidate.TheVariants as candida
 use Rattle.law_agenda.specs.declared.walks.Walk.{Walk}
 use Rattle.law_listing.specs.Choices.{counts_of, IsTermOf}
 use Rattle.law_agenda.specs.Shelves.{Shelf, lists_at, IsShelf, AreSchemas}
-use Rattle.law_listing.specs.Stages.{Onward, FromStage}
+use Rattle.law_listing.specs.Stages.{Onward, AreHeavier}
 use Rattle.law_agenda.specs.Walking.{IsWalk}
 
 -- an application of this weight, at a row from the shelf
@@ -48,5 +48,5 @@ NextOf parts shelf w P s r = MatchOption r (IsSpent (IsBefore parts) P (s ∷ []
 
 -- from a symbol on, all of one weight: where there is none, the rest is heavier
 abbrev pub FirstFrom : SigParts → List Tree → Shelf → ℕ → ℕ → Option Candidate → Type 0
-FirstFrom parts spreads shelf w n r = MatchOption r ((y : Tree) → IsConsidered parts spreads y → FromStage parts w 1 n y → w < weight parts y)
+FirstFrom parts spreads shelf w n r = MatchOption r (AreHeavier parts (IsConsidered parts spreads) w n)
     (λ c. (t : Tree) × IsCandidate parts shelf w c t × IsFirstAbove (IsBefore parts) (Onward parts (IsConsidered parts spreads) w 1 n) [] t)

@@ -1,19 +1,18 @@
 -- Spread schemas by weight and sort.
-use Rattle.std.specs.Prelude.{◌≡◌, ℕ, zero, suc, ◌<◌, List, [], ◌∷◌, ◌++◌, length, map, Bool, false, Option, Some, None, IsTrue, slice_index_or}
+use Rattle.std.specs.Prelude.{◌≡◌, ℕ, zero, suc, ◌<◌, List, [], ◌∷◌, ◌++◌, length, map, Bool, Option, Some, None, IsTrue, slice_index_or}
 use Rattle.std.specs.List.{filter}
 use Rattle.law_sig.specs.Lists.{In, Each, Rising}
-use Rattle.law_sig.specs.Trees.{same_sort, schema_of}
-use Rattle.law_sig.specs.Signature.{is_declared_sort, symbol_at, args_of, result_of, sort_of}
+use Rattle.law_sig.specs.Trees.{schema_of}
+use Rattle.law_sig.specs.Signature.{is_declared_sort, symbol_at, args_of, sort_of}
 use Rattle.law_sig.specs.Tests.{weight}
 use Rattle.law_sig.specs.Order.{IsBefore}
 use Rattle.law_sig.specs.declared.tree.SortId.{SortId}
 use Rattle.law_sig.specs.declared.tree.SymId.{SymId}
 use Rattle.law_sig.specs.declared.tree.Tree.{Tree}
-use Rattle.law_sig.specs.declared.tree.Tree.TheOpen.{Tree-F}
-use Rattle.law_sig.specs.declared.tree.Tree.TheOpen as o
 use Rattle.law_sig.specs.declared.tree.Tree.TheViews.{out-Tree}
 use Rattle.law_sig.specs.declared.parts.Sym.{Sym}
 use Rattle.law_sig.specs.declared.parts.SigParts.{SigParts}
+use Rattle.law_listing.specs.Listing.{heads_sort}
 use Rattle.law_agenda.specs.declared.shelves.Spread.{Spread}
 
 -- by weight, and then by the number of the sort
@@ -41,15 +40,7 @@ sorts_of (Some symbol) = args_of symbol
 abbrev pub lists_at : SigParts → Shelf → SymId → List (List (List Tree))
 lists_at parts shelf f = lists_for shelf (sorts_of (symbol_at parts f))
 
--- whether a term's head has a sort
-abbrev pub gives_sort : SortId → Option Sym → Bool
-gives_sort sort None = false
-gives_sort sort (Some symbol) = same_sort (result_of symbol) sort
-
-abbrev pub heads_sort : SigParts → SortId → Tree-F Tree → Bool
-heads_sort parts sort (o.Var own index) = same_sort own sort
-heads_sort parts sort (o.App head args) = gives_sort sort (symbol_at parts head)
-
+-- whether a schema's head has a sort
 abbrev pub is_of_sort : SigParts → SortId → Spread → Bool
 is_of_sort parts sort spread = heads_sort parts sort (out-Tree spread.schema)
 

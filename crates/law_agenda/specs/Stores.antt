@@ -1,8 +1,7 @@
 -- All that is known of the spread schemas so far.
-use Rattle.std.specs.Prelude.{◌≡◌, ℕ, ◌<◌, ◌≤◌, ◌⊎◌, List, [], ◌∷◌, ◌++◌, length, Option, Some}
-use Rattle.std.specs.Option.{MatchOption}
+use Rattle.std.specs.Prelude.{◌≡◌, ℕ, ◌≤◌, ◌⊎◌, List, [], ◌∷◌, ◌++◌, Option, Some}
 use Rattle.law_sig.specs.Lists.{In, Each, Rising}
-use Rattle.law_sig.specs.Signature.{vars_at, sort_of}
+use Rattle.law_sig.specs.Signature.{sort_of}
 use Rattle.law_sig.specs.Tests.{weight}
 use Rattle.law_sig.specs.Order.{IsBefore}
 use Rattle.law_sig.specs.declared.tree.SortId.{SortId}
@@ -28,16 +27,6 @@ pub record IsStore (parts : SigParts) (spreads : List Tree) (store : Store) : Ty
   pub sorted : Each (λ c. (sort : SortId) × (sort_of parts c ≡ Some sort)) spreads
   pub light : Each (λ c. weight parts c ≤ store.weight) spreads
   pub weighs : 1 ≤ store.weight
-
--- the first sort from this number on that has variables, of those that are declared
-pub record IsFirstVar (parts : SigParts) (from : ℕ) (sort : SortId) : Type 0 where
-  pub later : from ≤ sort.0
-  pub declared : sort.0 < length parts.sort_names
-  pub some : 1 ≤ vars_at parts sort
-  pub first : (n : ℕ) → from ≤ n → n < sort.0 → vars_at parts (record { 0 = n }) ≡ 0
-
-abbrev pub FirstVar : SigParts → ℕ → Option SortId → Type 0
-FirstVar parts from r = MatchOption r ((n : ℕ) → from ≤ n → n < length parts.sort_names → vars_at parts (record { 0 = n }) ≡ 0) (IsFirstVar parts from)
 
 -- a variable is met at weight 1
 abbrev pub IsFitting : Store → Candidate → Type 0

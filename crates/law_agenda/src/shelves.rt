@@ -3,7 +3,8 @@ ghost use Rattle.std.specs.List.{filter};
 ghost use Rattle.law_sig.specs.Signature.{symbol_at};
 ghost use Rattle.law_sig.specs.declared.tree.Tree.TheViews.{out-Tree};
 ghost use Rattle.law_listing.specs.Choices.{counts_of};
-ghost use Rattle.law_agenda.specs.Shelves.{column, lists_for, heads_sort, gives_sort, is_of_sort, sorted_out, schemas_in};
+ghost use Rattle.law_agenda.specs.Shelves.{column, lists_for, is_of_sort, sorted_out, schemas_in};
+ghost use Rattle.law_listing.specs.Listing.{heads_sort, gives_sort};
 
 use law_sig::{NoMemory, Seq, Sig, SortId, Sym, SymId, Tree};
 use std::alloc::Global;

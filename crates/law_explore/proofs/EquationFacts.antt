@@ -5,7 +5,7 @@ use Rattle.std.proofs.lemmas.List.{append-nil, get_or_default}
 use Rattle.std.proofs.lemmas.Option.{slice_get-get_or}
 use Rattle.law_sig.specs.declared.tree.Tree.{Tree}
 use Rattle.law_sig.specs.declared.parts.Equation.{Equation}
-use Rattle.law_explore.specs.Rows.{each_below}
+use Rattle.law_listing.specs.Rows.{each_below}
 use Rattle.law_explore.specs.Equations.{equation_of, equation_at}
 
 each_below_more : {A : Type 0} (n : ℕ) (f : ℕ → List A) → each_below (n + 1) f ≡ each_below n f ++ f n

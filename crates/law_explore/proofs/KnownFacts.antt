@@ -30,7 +30,7 @@ use Rattle.law_explore.specs.Refusals.{Refusal, LacksValue, HasLackingTerm}
 use Rattle.law_explore.specs.Values.{HasVector, IsPlaced, HasClass, AreArgsPlaced, HasArgClasses, HasArgVectors}
 use Rattle.law_explore.specs.Classes.{Extends}
 use Rattle.law_explore.proofs.LawFacts.{some_is}
-use Rattle.law_explore.proofs.Rising.{place_of, at_place, rising_places}
+use Rattle.law_listing.proofs.Rising.{place_of, at_place, rising_places}
 use Rattle.law_explore.proofs.ClassFacts.{classes_stay}
 
 get_take : {A : Type 0} (xs : List A) (n k : ℕ) (x : A) → k < n → slice_get xs k ≡ Some x → slice_get (take n xs) k ≡ Some x

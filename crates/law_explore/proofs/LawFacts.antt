@@ -20,8 +20,8 @@ use Rattle.law_explore.specs.Universe.{IsUniverse}
 use Rattle.law_explore.specs.Firsts.{AreFirsts}
 use Rattle.law_explore.specs.Equations.{equation_of, equation_at, equations}
 use Rattle.law_explore.specs.Tells.{Tells}
-use Rattle.law_explore.proofs.Rising.{place_of, at_place, rising_places}
-use Rattle.law_explore.proofs.RowFacts.{in_each_below, each_below_in, each_below_rising}
+use Rattle.law_listing.proofs.Rising.{place_of, at_place, rising_places}
+use Rattle.law_listing.proofs.RowFacts.{in_each_below, each_below_in, each_below_rising}
 
 pub mapped_some : {A B : Type 0} (f : A → B) (o : Option A) (y : B) → option_map f o ≡ Some y → (x : A) × (o ≡ Some x) × (f x ≡ y)
 mapped_some f None y e = cc

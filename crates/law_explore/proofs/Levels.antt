@@ -3,8 +3,8 @@ use Rattle.std.proofs.Common.{◌≡◌, ℕ, ◌+◌, List, [], ◌∷◌, ◌+
 use Rattle.std.proofs.lemmas.List.{append-nil, length_push}
 use Rattle.law_sig.specs.declared.tree.Tree.{Tree}
 use Rattle.law_sig.specs.declared.parts.SigParts.{SigParts}
-use Rattle.law_explore.specs.Rows.{each_below, crossed}
-use Rattle.law_explore.specs.Listing.{level, levels_to}
+use Rattle.law_listing.specs.Rows.{each_below, crossed}
+use Rattle.law_listing.specs.Listing.{level, levels_to}
 
 -- one level more
 levels_more : (parts : SigParts) (n : ℕ) → levels_to parts (n + 1) ≡ levels_to parts n ++ level parts (levels_to parts n) (n + 1) ∷ []

@@ -1,13 +1,7 @@
 pub mod Levels
-pub mod Rising
-pub mod RowFacts
-pub mod Earlier
-pub mod SortFacts
-pub mod SchemaFacts
 pub mod FirstFacts
 pub mod EquationFacts
 pub mod LawFacts
-pub mod InstanceFacts
 pub mod Breaking
 pub mod VectorFacts
 pub mod ClassFacts

@@ -19,7 +19,7 @@ use Rattle.law_explore.specs.Refusals.Refusal.{ValueTooLarge, Over}
 use Rattle.law_explore.specs.Refusals.Breaks.{left_over, right_over, differs}
 use Rattle.law_sig.specs.Laws.{IsBackgroundTrue}
 use Rattle.law_explore.specs.LawList.{OneRefusal, NoneWithin}
-use Rattle.law_explore.proofs.Rising.{at_place}
+use Rattle.law_listing.proofs.Rising.{at_place}
 use Rattle.law_explore.proofs.Breaking.{HoldsAll, agrees_not, each_got}
 use Rattle.law_explore.proofs.LawFacts.{some_is}
 

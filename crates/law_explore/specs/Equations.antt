@@ -2,7 +2,7 @@
 use Rattle.std.specs.Prelude.{ℕ, ◌==◌, List, [], ◌∷◌, length, Option, Some, None, slice_get, slice_index_or, if◌then◌else◌}
 use Rattle.law_sig.specs.declared.tree.Tree.{Tree}
 use Rattle.law_sig.specs.declared.parts.Equation.{Equation}
-use Rattle.law_explore.specs.Rows.{each_below}
+use Rattle.law_listing.specs.Rows.{each_below}
 
 -- the equation of the term at a place, which has this first place
 abbrev pub equation_of : List Tree → ℕ → Option Tree → Option ℕ → List Equation

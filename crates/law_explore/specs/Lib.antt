@@ -1,5 +1,3 @@
-pub mod Rows
-pub mod Listing
 pub mod Universe
 pub mod Firsts
 pub mod Equations

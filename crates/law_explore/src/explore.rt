@@ -1,6 +1,6 @@
 ghost use Rattle.std.specs.Prelude.{◌≡◌, ◌≤◌, ◌++◌, IfOk, OnOk};
 ghost use Rattle.std.specs.List.{flat_map};
-ghost use Rattle.law_explore.specs.Listing.{variables_of, instances, listing};
+ghost use Rattle.law_listing.specs.Listing.{variables_of, instances, listing};
 ghost use Rattle.law_explore.specs.Universe.{IsUniverse};
 
 use super::rows::{choices, push_over};

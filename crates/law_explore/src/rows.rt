@@ -1,6 +1,6 @@
 ghost use Rattle.std.specs.Prelude.{◌≡◌, ◌++◌, ◌∷◌, map, IfOk, OnOk};
-ghost use Rattle.law_explore.specs.Rows.{crossed, choices};
-ghost use Rattle.law_explore.specs.Listing.{over_each};
+ghost use Rattle.law_listing.specs.Rows.{crossed, choices};
+ghost use Rattle.law_listing.specs.Listing.{over_each};
 
 use super::list::{in_front, push_copies};
 use law_sig::{NoMemory, Seq, SymId, Tree};

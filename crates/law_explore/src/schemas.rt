@@ -2,8 +2,8 @@ ghost use Rattle.std.specs.Prelude.{◌≡◌, ◌+◌, ◌++◌, ◌<◌, ◌�
 ghost use Rattle.law_sig.specs.Signature.{symbol_at, vars_at, weight_at};
 ghost use Rattle.law_sig.specs.Tests.{is_explored};
 ghost use Rattle.law_sig.specs.declared.tree.Tree.TheViews.{out-Tree};
-ghost use Rattle.law_explore.specs.Rows.{crossed, rows_of};
-ghost use Rattle.law_explore.specs.Listing.{heads_sort, gives_sort, of_sort, of_weight, first_variables, applications, level, levels_to};
+ghost use Rattle.law_listing.specs.Rows.{crossed, rows_of};
+ghost use Rattle.law_listing.specs.Listing.{heads_sort, gives_sort, of_sort, of_weight, first_variables, applications, level, levels_to};
 
 use super::rows::{push_behind, push_over};
 use law_sig::{NoMemory, Seq, Sig, SortId, Sym, SymId, Tree};
@@ -126,7 +126,7 @@ fn push_applications(
 ) -> Result<(), NoMemory>
     requires declared { sym.0 < length sig.now.symbols }
     requires small { length levels.now < 2 ^ 32 }
-    ensures { OnOk result (found.new ≡ found.old ++ applications sig.now levels.now (length levels.now) sym) }
+    ensures { OnOk result (found.new ≡ found.old ++ applications sig.now (of_weight sig.now levels.now) (length levels.now) sym) }
 {
     let own = weight_at(sig, sym);
     if !is_explored(sig, sym) || levels.len() < own as usize {

@@ -25,6 +25,7 @@ use Rattle.law_listing.specs.Listing.{over_each}
 use Rattle.law_listing.specs.Columns.{IsBelow, AreLists, IsOpenOver, IsInstanceOver}
 use Rattle.law_listing.proofs.Rising.{map_in, rising_map}
 use Rattle.law_listing.proofs.RowFacts.{in_choices, choices_in, choices_rising, chosen_all, all_chosen}
+use Rattle.law_listing.proofs.PickFacts.{compared}
 use Rattle.law_listing.proofs.Transfer.{StandFor}
 use Rattle.law_listing.proofs.Picking.{IsSorted, picked_chosen, chosen_picked, picked_one, picked_rises, rows_compared}
 use Rattle.law_listing.proofs.Staging.{apps_below, indices_below, same_before}
@@ -195,14 +196,3 @@ vars_stand parts lives sort declared small = record {
   one = λ i s t s_of t_of. s_of ∙ sym t_of;
   rises = λ a b s t a_is b_is s_of t_of less. subst₂ (IsBefore parts) (sym s_of) (sym t_of) (vars_before parts sort a b less);
 }
-  where
-    compared : (n m : ℕ) → (n ≡ m) ⊎ ((n < m) ⊎ (m < n))
-    compared zero zero = inl refl
-    compared zero (suc m) = inr (inl (omega arith))
-    compared (suc n) zero = inr (inr (omega arith))
-    compared (suc n) (suc m) = up (compared n m)
-      where
-        up : (n ≡ m) ⊎ ((n < m) ⊎ (m < n)) → (suc n ≡ suc m) ⊎ ((suc n < suc m) ⊎ (suc m < suc n))
-        up (inl e) = inl (ap suc e)
-        up (inr (inl l)) = inr (inl (omega arith))
-        up (inr (inr l)) = inr (inr (omega arith))

@@ -6,6 +6,7 @@ pub mod Picking
 pub mod Staging
 pub mod Applications
 pub mod Considered
+pub mod Stepping
 pub mod Instances
 pub mod SortFacts
 pub mod SchemaFacts

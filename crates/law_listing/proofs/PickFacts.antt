@@ -1,6 +1,7 @@
 -- Rows of picks: which come first and next, and the weights that they may have.
 use Rattle.std.proofs.Common.{◌≡◌, ◌≢◌, ℕ, zero, suc, ◌+◌, ◌-◌, ◌<◌, ◌≤◌, ◌⊎◌, inl, inr, Bool, true, false, true≢false, List, [], ◌∷◌, ◌++◌, length, slice_index_or, refl, sym, ap, ap₂, subst, arith}
 use Rattle.std.proofs.Math.Nat.{eq-or-lt_of_le}
+use Rattle.std.proofs.lemmas.List.{get_or_push, get_or_append_left, length_push}
 use Rattle.law_sig.specs.Expected.{IsFirstAbove, IsSpent}
 use Rattle.law_listing.specs.declared.pick.Pick.{Pick}
 use Rattle.law_listing.specs.Rows.{Lex}
@@ -15,6 +16,9 @@ one_more P n have at k less =
     by : (k ≡ n) ⊎ (k < n) → P k
     by (inl e) = subst P (sym e) at
     by (inr h) = have k h
+
+pub compared : (n m : ℕ) → (n ≡ m) ⊎ ((n < m) ⊎ (m < n))
+compared n m = grind arith
 
 -- Weights
 
@@ -50,26 +54,15 @@ fits_sum counts more known sums is none weight e (p ∷ ps) (small, below, rest)
     by (inl no_choice) = omega arith
     by (inr not_behind) = is (weight - p.weight) not_behind ps rest
 
-pub at_kept : {A : Type 0} (xs ys : List A) (n : ℕ) (d : A) → n < length xs → slice_index_or (xs ++ ys) n d ≡ slice_index_or xs n d
-at_kept [] ys n d less = absurd (omega arith)
-at_kept (x ∷ xs) ys zero d less = refl
-at_kept (x ∷ xs) ys (suc n) d less = at_kept xs ys n d (omega arith)
-
-pub at_end : {A : Type 0} (xs : List A) (x : A) (n : ℕ) (d : A) → n ≡ length xs → slice_index_or (xs ++ x ∷ []) n d ≡ x
-at_end [] x zero d e = refl
-at_end [] x (suc n) d e = absurd (omega arith)
-at_end (y ∷ xs) x zero d e = absurd (omega arith)
-at_end (y ∷ xs) x (suc n) d e = at_end xs x n d (omega arith)
-
 are_kept : (more : List (List ℕ)) (fits : List (List Bool)) (x : List Bool) → length more ≤ length fits → AreFits more fits → AreFits more (fits ++ x ∷ [])
 are_kept [] fits x small h = tt
-are_kept (c ∷ more) fits x small h = (subst (IsFits more) (sym (at_kept fits (x ∷ []) (length more) [] (omega arith))) h.0, are_kept more fits x (omega arith) h.1)
+are_kept (c ∷ more) fits x small h = (subst (IsFits more) (sym (get_or_append_left fits (x ∷ []) [] (length more) (omega arith))) h.0, are_kept more fits x (omega arith) h.1)
 
 pub more_fits : (counts : List ℕ) (more : List (List ℕ)) (fits : List (List Bool)) (x : List Bool) → AreAllFits more fits
     → ((n : ℕ) → slice_index_or x n true ≡ false → NoSum counts (slice_index_or fits (length more) []) n) → AreAllFits (counts ∷ more) (fits ++ x ∷ [])
 more_fits counts more fits x m none = record {
-  behind = (subst (IsFits more) (sym (at_kept fits (x ∷ []) (length more) [] within)) m.all, are_kept more fits x (omega arith) m.behind);
-  all = subst (IsFits (counts ∷ more)) (sym (at_end fits x (suc (length more)) [] (omega arith))) (fits_sum counts more (slice_index_or fits (length more) []) x m.all none);
+  behind = (subst (IsFits more) (sym (get_or_append_left fits (x ∷ []) [] (length more) within)) m.all, are_kept more fits x (omega arith) m.behind);
+  all = subst (IsFits (counts ∷ more)) (sym (get_or_push fits x [] (suc (length more)) (omega arith))) (fits_sum counts more (slice_index_or fits (length more) []) x m.all none);
   long = len fits;
 }
   where
@@ -79,12 +72,8 @@ more_fits counts more fits x m none = record {
     within : length more < length fits
     within = let h = m.long in omega arith
 
-    longer : (ys : List (List Bool)) → length (ys ++ x ∷ []) ≡ suc (length ys)
-    longer [] = refl
-    longer (y ∷ ys) = ap suc (longer ys)
-
     len : (ys : List (List Bool)) → length (fits ++ x ∷ []) ≡ suc (length more) + 1
-    len ys = let h = m.long in let k = longer fits in omega arith
+    len ys = let h = m.long in let k = length_push fits x in omega arith
 
 pub no_fits : (fits : List (List Bool)) (x : List Bool) → fits ≡ [] → ((n : ℕ) → slice_index_or x n true ≡ false → n ≢ 0) → AreAllFits [] (fits ++ x ∷ [])
 no_fits fits x e none = subst (λ l. AreAllFits [] (l ++ x ∷ [])) (sym e) (record { behind = tt; all = fits_nothing x none; long = refl })
@@ -117,16 +106,12 @@ pub none_not_behind : (first : List ℕ) (rest : List (List ℕ)) (fits : List B
     → NoneAt first rest weight own
 none_not_behind first rest fits weight own is e p ps at below row = is (weight - own) e ps row
 
-pub none_below : (first : List ℕ) (rest : List (List ℕ)) (weight own : ℕ) → IsSpent (Lex IsLower) (IsRowFrom rest (weight - own) 0) [] → NoneAt first rest weight own
-none_below first rest weight own spent p ps at below row = spent ps (row, from_nothing ps) tt
-  where
-    from_nothing : (ps : List Pick) → StartsFrom 0 ps
-    from_nothing [] = tt
-    from_nothing (p ∷ ps) = omega arith
-
 from_nothing : (ps : List Pick) → StartsFrom 0 ps
 from_nothing [] = tt
 from_nothing (p ∷ ps) = omega arith
+
+pub none_below : (first : List ℕ) (rest : List (List ℕ)) (weight own : ℕ) → IsSpent (Lex IsLower) (IsRowFrom rest (weight - own) 0) [] → NoneAt first rest weight own
+none_below first rest weight own spent p ps at below row = spent ps (row, from_nothing ps) tt
 
 pub first_none : (first : List ℕ) (rest : List (List ℕ)) (weight from own : ℕ) → weight < own → BeginsFrom (first ∷ rest) weight from own
     → IsSpent (Lex IsLower) (IsRowFrom (first ∷ rest) weight from) []

@@ -8,7 +8,7 @@ use Rattle.law_listing.specs.Rows.{IsChosen, Lex}
 use Rattle.law_listing.specs.Picks.{IsLower, IsRow}
 use Rattle.law_listing.specs.Choices.{counts_of, weighing, Picked}
 use Rattle.law_listing.proofs.Rising.{place_of, at_place, rising_places}
-use Rattle.law_listing.proofs.PickFacts.{same_pick}
+use Rattle.law_listing.proofs.PickFacts.{same_pick, compared}
 
 -- Items at places
 
@@ -94,19 +94,8 @@ rows_compared [] weight w (p ∷ row) other h k = absurd h
 rows_compared (c ∷ choices) weight w [] other h k = absurd h
 rows_compared (c ∷ choices) weight w (p ∷ row) [] h k = absurd k
 rows_compared (c ∷ choices) weight w (p ∷ row) (q ∷ other) h k =
-    by (rows_compared choices (weight - p.weight) (w - q.weight) row other h.2 k.2) (picks_compared (numbers p.weight q.weight) (numbers p.at q.at))
+    by (rows_compared choices (weight - p.weight) (w - q.weight) row other h.2 k.2) (picks_compared (compared p.weight q.weight) (compared p.at q.at))
   where
-    numbers : (n m : ℕ) → (n ≡ m) ⊎ ((n < m) ⊎ (m < n))
-    numbers zero zero = inl refl
-    numbers zero (suc m) = inr (inl (omega arith))
-    numbers (suc n) zero = inr (inr (omega arith))
-    numbers (suc n) (suc m) = more (numbers n m)
-      where
-        more : (n ≡ m) ⊎ ((n < m) ⊎ (m < n)) → (suc n ≡ suc m) ⊎ ((suc n < suc m) ⊎ (suc m < suc n))
-        more (inl e) = inl (ap suc e)
-        more (inr (inl l)) = inr (inl (omega arith))
-        more (inr (inr l)) = inr (inr (omega arith))
-
     picks_compared : (p.weight ≡ q.weight) ⊎ ((p.weight < q.weight) ⊎ (q.weight < p.weight)) → (p.at ≡ q.at) ⊎ ((p.at < q.at) ⊎ (q.at < p.at)) → (p ≡ q) ⊎ (IsLower p q ⊎ IsLower q p)
     picks_compared (inl e) (inl d) = inl (same_pick p q e d)
     picks_compared (inl e) (inr (inl l)) = inr (inl (inr (e, l)))

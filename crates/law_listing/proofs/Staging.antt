@@ -12,7 +12,7 @@ use Rattle.law_sig.specs.declared.parts.SigParts.{SigParts}
 use Rattle.law_laws.proofs.TreeFacts.{tree_cases, weight-Var, rank-Var, rank-App}
 use Rattle.law_laws.proofs.ListFacts.{each_map, each_both}
 use Rattle.law_laws.proofs.Ranks.{Below, below_less, less_below, irreflexive}
-use Rattle.law_laws.proofs.Orders.{before_chain}
+use Rattle.law_laws.proofs.Orders.{never_before_itself, before_chain}
 use Rattle.law_sig.specs.Expected.{IsAbove, IsFirstAbove, IsSpent}
 use Rattle.law_listing.specs.Rows.{Lex}
 use Rattle.law_listing.specs.Columns.{IsBelow}
@@ -109,6 +109,15 @@ first_same R P Q done x to from f = record { is = to x f.is; above = f.above; le
 pub spent_same : {A : Type 0} (R : A → A → Type 0) (P Q : A → Type 0) (done : List A) → ((y : A) → Q y → P y) → IsSpent R P done → IsSpent R Q done
 spent_same R P Q done from spent y y_is above = spent y (from y y_is) above
 
+-- the first one is one alone
+pub first_one : (parts : SigParts) (P : Tree → Type 0) (done : List Tree) (x y : Tree) → IsFirstAbove (IsBefore parts) P done x → IsFirstAbove (IsBefore parts) P done y → x ≡ y
+first_one parts P done x y f g = by (f.least y g.is g.above) (g.least x f.is f.above)
+  where
+    by : (y ≡ x) ⊎ IsBefore parts x y → (x ≡ y) ⊎ IsBefore parts y x → x ≡ y
+    by (inl e) d = sym e
+    by (inr h) (inl e) = e
+    by (inr h) (inr k) = absurd (never_before_itself parts x (before_chain parts x y x h k))
+
 -- after the last one that is done, it stands after all
 pub first_after : (parts : SigParts) (P : Tree → Type 0) (done : List Tree) (c x : Tree) → IsAbove (IsBefore parts) done c → IsFirstAbove (IsBefore parts) P (c ∷ []) x
     → IsFirstAbove (IsBefore parts) P (done ++ c ∷ []) x
@@ -139,13 +148,6 @@ module _ (parts : SigParts) (P : Tree → Type 0) (schemas : (t : Tree) → P t 
       by : (y : Tree) → P y → AtStage parts w k n y ⊎ FromStage parts w k (suc n) y → (y ≡ c) ⊎ IsBefore parts c y
       by y p (inl at) = f.least y (p, at) tt
       by y p (inr later) = inr (stage_before w k n c y f.is (p, later))
-
-  pub stage_skipped : (w k n : ℕ) (c : Tree) → IsSpent (IsBefore parts) (Here parts P w k n) [] → IsFirstAbove (IsBefore parts) (Onward parts P w k (suc n)) [] c → IsFirstAbove (IsBefore parts) (Onward parts P w k n) [] c
-  stage_skipped w k n c none f = record { is = (f.is.0, later_from parts w k n c f.is.1); above = tt; least = λ y y_is above. by y y_is.0 (stage_split parts w k n y y_is.1) }
-    where
-      by : (y : Tree) → P y → AtStage parts w k n y ⊎ FromStage parts w k (suc n) y → (y ≡ c) ⊎ IsBefore parts c y
-      by y p (inl at) = absurd (none y (p, at) tt)
-      by y p (inr later) = f.least y (p, later) tt
 
   -- what comes after one at a stage is there, or later
   above_at : (w k n : ℕ) (c y : Tree) → Here parts P w k n c → P y → IsBefore parts c y → AtStage parts w k n y ⊎ FromStage parts w k (suc n) y

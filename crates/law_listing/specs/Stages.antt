@@ -1,6 +1,9 @@
 -- The way through the schemas: by weight, then variables before applications, then by the number of the sort or symbol.
-use Rattle.std.specs.Prelude.{◌≡◌, ℕ, ◌<◌, ◌≤◌, ◌⊎◌}
+use Rattle.std.specs.Prelude.{◌≡◌, ℕ, ◌<◌, ◌≤◌, ◌⊎◌, length, Option}
+use Rattle.std.specs.Option.{MatchOption}
+use Rattle.law_sig.specs.Signature.{vars_at}
 use Rattle.law_sig.specs.Tests.{weight}
+use Rattle.law_sig.specs.declared.tree.SortId.{SortId}
 use Rattle.law_sig.specs.declared.tree.Tree.{Tree}
 use Rattle.law_sig.specs.declared.tree.Tree.TheOpen.{Tree-F}
 use Rattle.law_sig.specs.declared.tree.Tree.TheOpen as o
@@ -39,3 +42,21 @@ Here parts P w k n t = P t × AtStage parts w k n t
 
 abbrev pub Onward : SigParts → (Tree → Type 0) → ℕ → ℕ → ℕ → Tree → Type 0
 Onward parts P w k n t = P t × FromStage parts w k n t
+
+-- those of a weight from one symbol on are from another one on
+abbrev pub NoneUpTo : SigParts → (Tree → Type 0) → ℕ → ℕ → ℕ → Type 0
+NoneUpTo parts P w from n = (y : Tree) → P y → FromStage parts w 1 from y → FromStage parts w 1 n y
+
+-- there are none of a weight from a symbol on: all later ones are heavier
+abbrev pub AreHeavier : SigParts → (Tree → Type 0) → ℕ → ℕ → Type 0
+AreHeavier parts P w from = (y : Tree) → P y → FromStage parts w 1 from y → w < weight parts y
+
+-- the first sort from this number on that has variables, of those that are declared
+pub record IsFirstVar (parts : SigParts) (from : ℕ) (sort : SortId) : Type 0 where
+  pub later : from ≤ sort.0
+  pub declared : sort.0 < length parts.sort_names
+  pub some : 1 ≤ vars_at parts sort
+  pub first : (n : ℕ) → from ≤ n → n < sort.0 → vars_at parts (record { 0 = n }) ≡ 0
+
+abbrev pub FirstVar : SigParts → ℕ → Option SortId → Type 0
+FirstVar parts from r = MatchOption r ((n : ℕ) → from ≤ n → n < length parts.sort_names → vars_at parts (record { 0 = n }) ≡ 0) (IsFirstVar parts from)

@@ -1,5 +1,6 @@
 use Rattle.std.proofs.Common.{arith}
-use Rattle.law_agenda.proofs.Seeking.{first_from_here, none_from_here, some_case}
+use Rattle.law_listing.proofs.Stepping.{none_from_here}
+use Rattle.law_agenda.proofs.Seeking.{first_from_here, some_case}
 use Rattle.law_agenda.proofs.candidates.first_from_symbol.Goals as goal
 
 pub returns-in-Some : goal.returns-in-Some
@@ -11,4 +12,4 @@ pub returns : goal.returns
 returns c = λ spreads stock.
     let h = c.symbols-number-end.ensures in
     let k = c.loop-number-test.false in
-    none_from_here c.args.universe.now spreads c.args.shelf.now c.args.weight stock c.args.from c.loop-number.number (omega arith) (c.loop-number.invariant.1 spreads stock)
+    none_from_here c.args.universe.now spreads c.args.weight stock.formed c.args.from c.loop-number.number (omega arith) (c.loop-number.invariant.1 spreads stock)

@@ -1,6 +1,7 @@
 use Rattle.std.proofs.Common.{◌≤◌, ◌<◌, sym, ◌∙◌, arith}
 use Rattle.law_sig.specs.Signature.{weight_at}
-use Rattle.law_agenda.proofs.Seeking.{none_too_heavy, none_not_explored, started, not_started, some_case, none_case, choices_are}
+use Rattle.law_listing.proofs.Stepping.{none_too_heavy, none_not_explored}
+use Rattle.law_agenda.proofs.Seeking.{started, not_started, some_case, none_case, choices_are}
 use Rattle.law_agenda.proofs.candidates.first_of_symbol.Goals as goal
 
 pub returns-then-weight-own : goal.returns-then-weight-own
@@ -8,11 +9,11 @@ returns-then-weight-own c = λ spreads stock.
     let e = c.weight_at-own.ensures.weight in
     let h = c.if-weight-own.true in
     let less : c.args.weight < weight_at c.args.universe.now c.args.sym = omega arith in
-    none_too_heavy c.args.universe.now spreads c.args.shelf.now c.args.weight stock c.args.sym less
+    none_too_heavy c.args.universe.now spreads c.args.weight c.args.sym less
 
 pub returns-then-not-is_explored : goal.returns-then-not-is_explored
 returns-then-not-is_explored c = λ spreads stock.
-    none_not_explored c.args.universe.now spreads c.args.shelf.now c.args.weight stock c.args.sym (sym c.is_explored.ensures ∙ c.if-not-is_explored.true)
+    none_not_explored c.args.universe.now spreads c.args.weight c.args.sym (sym c.is_explored.ensures ∙ c.if-not-is_explored.true)
 
 pub returns-in-Some : goal.returns-in-Some
 returns-in-Some c = λ spreads stock.

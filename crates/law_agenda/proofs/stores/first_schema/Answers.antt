@@ -2,10 +2,10 @@ use Rattle.std.proofs.Common.{subst, refl}
 use Rattle.law_sig.specs.declared.tree.Tree.TheVariants.{Var}
 use Rattle.law_sig.specs.Schemas.{IsConsidered}
 use Rattle.law_agenda.specs.Candidates.{FirstOf}
-use Rattle.law_listing.specs.Stages.{Onward}
-use Rattle.law_agenda.specs.Stores.{FirstVar}
+use Rattle.law_listing.specs.Stages.{Onward, FirstVar}
+use Rattle.law_listing.proofs.Stepping.{first_var_is, no_vars, all_later}
 use Rattle.law_agenda.proofs.Seeking.{some_case, none_case}
-use Rattle.law_agenda.proofs.Storing.{first_var_is, no_vars, all_later, first_changed, if_ok}
+use Rattle.law_agenda.proofs.Storing.{first_changed, if_ok}
 use Rattle.law_agenda.proofs.stores.first_schema.Goals as goal
 
 pub returns-in-Some-clause-first : goal.returns-in-Some-clause-first

@@ -3,8 +3,9 @@ use Rattle.law_sig.specs.Schemas.{IsConsidered}
 use Rattle.law_agenda.specs.Candidates.{IsCandidate, IsApplication, FirstOf, NextOf}
 use Rattle.law_listing.specs.Stages.{Here, Onward}
 use Rattle.law_agenda.specs.Stores.{IsFitting}
+use Rattle.law_listing.proofs.Stepping.{var_declared}
 use Rattle.law_agenda.proofs.Seeking.{here_of}
-use Rattle.law_agenda.proofs.Storing.{next_var, next_at, next_from, var_declared, added, if_ok}
+use Rattle.law_agenda.proofs.Storing.{next_var, next_at, next_from, added, if_ok}
 use Rattle.law_agenda.proofs.stores.next_schema.Goals as goal
 
 pub returns-in-Var-clause-next : goal.returns-in-Var-clause-next

@@ -1,6 +1,6 @@
 use Rattle.std.proofs.Common.{◌≡◌, ◌++◌, drop}
 use Rattle.std.specs.List.{flat_map}
-use Rattle.law_explore.specs.Listing.{instances}
+use Rattle.law_listing.specs.Listing.{instances}
 use Rattle.law_explore.proofs.explore.listing.Given as goal
 
 abbrev pub invariant-loop-schemas : goal.invariant-loop-schemas

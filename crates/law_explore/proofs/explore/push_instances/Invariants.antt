@@ -1,6 +1,6 @@
 use Rattle.std.proofs.Common.{◌≡◌, ◌++◌, drop}
 use Rattle.std.specs.List.{flat_map}
-use Rattle.law_explore.specs.Listing.{instances}
+use Rattle.law_listing.specs.Listing.{instances}
 use Rattle.law_explore.proofs.explore.push_instances.Given as goal
 
 abbrev pub invariant-loop-schema : goal.invariant-loop-schema

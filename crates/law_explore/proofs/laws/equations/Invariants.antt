@@ -1,5 +1,5 @@
 use Rattle.std.proofs.Common.{◌≡◌}
-use Rattle.law_explore.specs.Rows.{each_below}
+use Rattle.law_listing.specs.Rows.{each_below}
 use Rattle.law_explore.specs.Equations.{equation_at}
 use Rattle.law_explore.proofs.laws.equations.Given as goal
 

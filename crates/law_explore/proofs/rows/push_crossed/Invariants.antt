@@ -1,5 +1,5 @@
 use Rattle.std.proofs.Common.{◌≡◌, ◌++◌, drop}
-use Rattle.law_explore.specs.Rows.{crossed}
+use Rattle.law_listing.specs.Rows.{crossed}
 use Rattle.law_explore.proofs.rows.push_crossed.Given as goal
 
 abbrev pub invariant-loop-term : goal.invariant-loop-term

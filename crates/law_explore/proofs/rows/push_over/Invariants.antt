@@ -1,5 +1,5 @@
 use Rattle.std.proofs.Common.{◌≡◌, ◌++◌, take}
-use Rattle.law_explore.specs.Listing.{over_each}
+use Rattle.law_listing.specs.Listing.{over_each}
 use Rattle.law_explore.proofs.rows.push_over.Given as goal
 
 abbrev pub invariant-loop-row : goal.invariant-loop-row

@@ -1,7 +1,7 @@
 use Rattle.std.proofs.Common.{◌≡◌, [], ◌-◌, sym, ap, ◌∙◌}
 use Rattle.std.proofs.lemmas.List.{nil_from_length}
-use Rattle.law_explore.specs.Rows.{crossed, rows_of}
-use Rattle.law_explore.specs.Listing.{of_weight}
+use Rattle.law_listing.specs.Rows.{crossed, rows_of}
+use Rattle.law_listing.specs.Listing.{of_weight}
 use Rattle.law_explore.proofs.Levels.{crossed_none, nothing_more}
 use Rattle.law_explore.proofs.schemas.+rows_of.Goals as goal
 

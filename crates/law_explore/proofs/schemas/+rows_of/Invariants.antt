@@ -1,6 +1,6 @@
 use Rattle.std.proofs.Common.{◌≡◌, ◌-◌, length}
-use Rattle.law_explore.specs.Rows.{each_below, crossed, rows_of}
-use Rattle.law_explore.specs.Listing.{of_weight}
+use Rattle.law_listing.specs.Rows.{each_below, crossed, rows_of}
+use Rattle.law_listing.specs.Listing.{of_weight}
 use Rattle.law_explore.proofs.schemas.+rows_of.Given as goal
 
 abbrev pub decreases-rows_of : goal.decreases-rows_of

@@ -1,6 +1,6 @@
 use Rattle.std.proofs.Common.{◌≡◌}
-use Rattle.law_explore.specs.Rows.{each_below}
-use Rattle.law_explore.specs.Listing.{first_variable}
+use Rattle.law_listing.specs.Rows.{each_below}
+use Rattle.law_listing.specs.Listing.{first_variable}
 use Rattle.law_explore.proofs.schemas.first_variables.Given as goal
 
 abbrev pub invariant-loop-number : goal.invariant-loop-number

@@ -1,5 +1,5 @@
 use Rattle.std.proofs.Common.{◌≡◌, length, ap, ◌∙◌, arith}
-use Rattle.law_explore.specs.Listing.{level, levels_to}
+use Rattle.law_listing.specs.Listing.{level, levels_to}
 use Rattle.law_explore.proofs.Levels.{level_first, level_next}
 use Rattle.law_explore.proofs.schemas.levels.Goals as goal
 

@@ -1,5 +1,5 @@
 use Rattle.std.proofs.Common.{◌≡◌, ◌+◌, length}
-use Rattle.law_explore.specs.Listing.{levels_to}
+use Rattle.law_listing.specs.Listing.{levels_to}
 use Rattle.law_explore.proofs.schemas.levels.Given as goal
 
 abbrev pub invariant-loop-made : goal.invariant-loop-made

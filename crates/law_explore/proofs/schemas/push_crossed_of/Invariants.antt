@@ -1,6 +1,6 @@
 use Rattle.std.proofs.Common.{◌≡◌, ◌++◌, drop}
-use Rattle.law_explore.specs.Rows.{crossed}
-use Rattle.law_explore.specs.Listing.{of_sort}
+use Rattle.law_listing.specs.Rows.{crossed}
+use Rattle.law_listing.specs.Listing.{of_sort}
 use Rattle.law_explore.proofs.schemas.push_crossed_of.Given as goal
 
 abbrev pub invariant-loop-term : goal.invariant-loop-term

@@ -8,7 +8,8 @@ use Rattle.law_sig.specs.declared.tree.Tree.{Tree}
 use Rattle.law_sig.specs.Schemas.{IsConsidered}
 use Rattle.law_valid.specs.Order.{after_killed}
 use Rattle.law_agenda.proofs.Seeking.{some_case}
-use Rattle.law_agenda.proofs.AgendaFacts.{has_schema, ready_of, killed, first_one, fitting_of}
+use Rattle.law_agenda.proofs.AgendaFacts.{has_schema, ready_of, killed, fitting_of}
+use Rattle.law_listing.proofs.Staging.{first_one}
 use Rattle.law_agenda.proofs.agenda.Agenda.kill.Goals as goal
 
 pub unreachable-requires : goal.unreachable-requires

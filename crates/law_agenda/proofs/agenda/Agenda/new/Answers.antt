@@ -6,7 +6,8 @@ use Rattle.law_sig.specs.Schemas.{IsConsidered}
 use Rattle.law_listing.specs.Stages.{Onward}
 use Rattle.law_agenda.specs.Stores.{IsStore}
 use Rattle.law_agenda.proofs.Storing.{first_changed}
-use Rattle.law_agenda.proofs.AgendaFacts.{begun, all_stages}
+use Rattle.law_agenda.proofs.AgendaFacts.{begun}
+use Rattle.law_listing.proofs.Stepping.{all_stages}
 use Rattle.law_agenda.proofs.agenda.Agenda.new.Goals as goal
 
 pub returns : goal.returns
