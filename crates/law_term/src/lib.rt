@@ -1,0 +1,7 @@
+//! Terms that are kept once each, in a bank over an arena, and what the search does with them.
+#![tactic(auto)]
+
+mod bank;
+
+pub use bank::TermBank;
+pub use law_bank::{Head, Node, Term};
