@@ -4,6 +4,10 @@ use Rattle.std.specs.List.{slice_get}
 use Rattle.std.proofs.lemmas.Simd.{map-map}
 use denote.Bor.{Bor}
 use Rattle.law_sig.specs.Lists.{Each}
+use Rattle.law_sig.specs.Trees.{node_count}
+use Rattle.law_sig.specs.Tests.{weight}
+use Rattle.law_sig.specs.declared.parts.SigParts.{SigParts}
+use Rattle.law_rewriting.specs.Heads.{head_sort}
 use Rattle.law_sig.specs.declared.tree.SortId.{SortId}
 use Rattle.law_sig.specs.declared.tree.SymId.{SymId}
 use Rattle.law_sig.specs.declared.tree.Tree.{Tree}
@@ -14,7 +18,7 @@ use Rattle.law_bank.specs.declared.node.Head.TheVariants.{Var, Sym}
 use Rattle.law_bank.specs.declared.node.Node.{Node, Node-F, every-Node, every_here-Node, every_held-Node, every_made-Node, map-Node, fold_out-Node, out-Node, roll-Node, out-roll-Node, roll-out-Node}
 use Rattle.law_bank.specs.declared.node.Node.TheFolds.{ind-Node}
 use Rattle.law_bank.specs.Terms.{tree_at, tree_step, tree_of, trees_of, id_of, ids_of, Fits}
-use Rattle.law_bank.specs.Bank.{Terms, IsHere, IsOf, AllOf, IsShared, Grows, with_trees}
+use Rattle.law_bank.specs.Bank.{Terms, IsHere, IsOf, AllOf, IsShared, Grows, with_trees, capped, sorts_by}
 
 abbrev Of : Terms → Type 0
 Of bank = (x : Node) × every-Node (IsHere bank) x
@@ -98,9 +102,9 @@ same_ids bank (m ∷ ms) (n ∷ ns) d p q e =
     ap (λ z. z ∷ ids_of ms) x ∙ ap (λ z. id_of n.now ∷ z) y
 
 -- terms of one bank that have one head and arguments of the same ids are one tree, and the other way round
-pub key_tree : (bank : Terms) (m n : Node) → IsOf bank m → (h : Head) (bs : List (Bor Node)) → AllOf bank bs
+pub key_tree : (bank : Terms) (m : Node) → IsOf bank m → (h : Head) (bs : List (Bor Node)) → AllOf bank bs
     → (out-Node m).head ≡ h → ids_of (out-Node m).args.now ≡ ids_of bs → tree_of m ≡ tree_at h (trees_of bs)
-key_tree bank m n p h bs q eh ei =
+key_tree bank m p h bs q eh ei =
     tree_of-out m ∙ ap (λ z. tree_at z (trees_of (out-Node m).args.now)) eh ∙ ap (tree_at h) (same_trees bank (out-Node m).args.now bs (below bank m p) q ei)
 
 heads_same : (h k : Head) (ss ts : List Tree) → Fits h ss → Fits k ts → tree_at h ss ≡ tree_at k ts → (h ≡ k) × (ss ≡ ts)
@@ -163,3 +167,14 @@ grows_none bank = ([], ap (λ l. let z : Terms = record { sorts = bank.sorts; we
 
 pub grows_on : (a b c : Terms) → Grows a b → Grows b c → Grows a c
 grows_on a b c g h = (g.0 ++ h.0, h.1 ∙ ap (λ z. with_trees z h.0) g.1 ∙ ap (λ l. let z : Terms = record { sorts = a.sorts; weights = a.weights; trees = l } in z) (append_assoc a.trees g.0 h.0))
+
+-- What a term tells of its tree
+
+pub size_is : (bank : Terms) (n : Node) → IsOf bank n → (out-Node n).size ≡ capped (node_count (tree_of n))
+size_is bank n h = (here bank n h).size ∙ ap (λ m. capped (node_count (tree_of m))) (roll-out-Node n)
+
+pub weight_is : (bank : Terms) (parts : SigParts) (n : Node) → IsOf bank n → parts.settings.weights ≡ bank.weights → (out-Node n).weight ≡ capped (weight parts (tree_of n))
+weight_is bank parts n h e = (here bank n h).weight parts e ∙ ap (λ m. capped (weight parts (tree_of m))) (roll-out-Node n)
+
+pub sort_is : (bank : Terms) (n : Node) → IsOf bank n → (out-Node n).sort ≡ head_sort (sorts_by bank.sorts) (tree_of n)
+sort_is bank n h = (here bank n h).sort ∙ ap (λ m. head_sort (sorts_by bank.sorts) (tree_of m)) (roll-out-Node n)

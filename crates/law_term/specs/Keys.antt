@@ -5,6 +5,7 @@ use Rattle.law_bank.specs.declared.node.Head.{Head}
 use Rattle.law_bank.specs.declared.node.Head.TheVariants.{Var, Sym}
 use Rattle.law_bank.specs.declared.node.Node.{Node, out-Node}
 use Rattle.law_bank.specs.Terms.{ids_of}
+use Rattle.law_term.specs.declared.bank.Told.{Told}
 
 -- a head and the ids of arguments, as numbers
 abbrev pub key : Head → List ℕ → List ℕ
@@ -14,11 +15,11 @@ key (Sym symbol) ids = 1 ∷ symbol.0 ∷ ids
 abbrev pub key_of : Node → List ℕ
 key_of n = key (out-Node n).head (ids_of (out-Node n).args.now)
 
--- the second node is the first one with these arguments
-pub record IsNode (model : Node) (args : List (Bor Node)) (n : Node) : Type 0 where
-  pub id : (out-Node n).id ≡ (out-Node model).id
-  pub head : (out-Node n).head ≡ (out-Node model).head
+-- a node with this head, these arguments, and what it tells
+pub record IsNode (head : Head) (args : List (Bor Node)) (told : Told) (n : Node) : Type 0 where
+  pub head_is : (out-Node n).head ≡ head
   pub args_are : (out-Node n).args.now ≡ args
-  pub size : (out-Node n).size ≡ (out-Node model).size
-  pub weight : (out-Node n).weight ≡ (out-Node model).weight
-  pub sort : (out-Node n).sort ≡ (out-Node model).sort
+  pub id : (out-Node n).id ≡ told.id
+  pub size : (out-Node n).size ≡ told.size
+  pub weight : (out-Node n).weight ≡ told.weight
+  pub sort : (out-Node n).sort ≡ told.sort

@@ -43,20 +43,37 @@ impl<'a> Model for TermBank<'a> {
     ghost invariant = { IsBank };
 }
 
+/// What a node tells of its tree, and its id.
+#[derive(Clone, Copy)]
+struct Told {
+    id: u64,
+    size: u64,
+    weight: u64,
+    sort: SortId,
+}
+
 /// A new node in the arena.
 fn place<'a>(
     arena: &'a Bump<Global>,
+    head: Head,
     args: &[Term<'a>],
-    node: Node<'a>,
+    told: Told,
 ) -> Result<Term<'a>, NoMemory>
-    ensures { IfOk result (λ t. IsNode node.entry args.now t.now) }
+    ensures { IfOk result (λ t. IsNode head args.now told t.now) }
 {
     let mut copy: Vec<Term<'a>, &'a Bump<Global>> = Vec::new(arena);
     let Ok(()) = copy.extend_from_slice(args) else {
         return Err(NoMemory);
     };
-    let args = into_bump_slice(copy);
-    match arena.try_alloc(Node { args, ..node }) {
+    let node = Node {
+        id: told.id,
+        head,
+        args: into_bump_slice(copy),
+        size: told.size,
+        weight: told.weight,
+        sort: told.sort,
+    };
+    match arena.try_alloc(node) {
         Ok(term) => Ok(term),
         Err(_) => Err(NoMemory),
     }
@@ -196,18 +213,16 @@ impl<'a> TermBank<'a> {
         if let Some(known) = self.nodes.get(&key) {
             return Ok(*known);
         }
-        let node = Node {
+        let told = Told {
             id: self.nodes.len() as u64,
-            head,
-            args: &[],
             size: size_over(args),
             weight: self.weight_of(head, args),
             sort: self.sort_of(head),
         };
-        let made = place(self.arena, args, node)?;
-        match self.nodes.insert(key, made) {
-            Ok(_) => Ok(made),
-            Err(_) => Err(NoMemory),
-        }
+        let made = place(self.arena, head, args, told)?;
+        let Ok(_) = self.nodes.insert(key, made) else {
+            return Err(NoMemory);
+        };
+        Ok(made)
     }
 }
