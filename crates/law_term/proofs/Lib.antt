@@ -1,2 +1,4 @@
 pub mod Items
 pub mod Interning
+pub mod Walking
+pub mod Bound

@@ -1,2 +1,4 @@
 pub mod Keys
 pub mod Inside
+pub mod Walks
+pub mod Substs

@@ -149,6 +149,11 @@ impl<'a> TermBank<'a> {
         }
     }
 
+    /// Where the bank, and what is made with it, takes memory.
+    pub fn alloc(&self) -> Global {
+        self.alloc
+    }
+
     /// Does nothing. Its contract says of any bank that no two of its ids have one tree.
     pub fn shared(&self)
         ensures { IsShared self.now }

@@ -2,6 +2,9 @@
 #![tactic(auto)]
 
 mod bank;
+mod change;
+mod subst;
 
 pub use bank::TermBank;
 pub use law_bank::{Head, Node, Term};
+pub use subst::Subst;
