@@ -2,3 +2,4 @@ pub mod Keys
 pub mod Inside
 pub mod Walks
 pub mod Substs
+pub mod Places

@@ -1,8 +1,10 @@
-ghost use Rattle.std.specs.Prelude.{◌≡◌, ◌⊎◌, ◌+◌, ◌<◌, ◌^◌, [], ◌∷◌, ◌++◌, map, Some, IsSome, IfOk, OnOk};
+ghost use Rattle.std.specs.Prelude.{◌≡◌, ℕ, ◌⊎◌, ◌+◌, ◌<◌, ◌^◌, [], ◌∷◌, ◌++◌, map, Some, IsSome, IfOk, OnOk};
 ghost use Rattle.indexmap.specs.IndexMap.{insert_entry};
 ghost use denote.Bor.{Bor};
-ghost use Rattle.law_sig.specs.Lists.{Each};
-ghost use Rattle.law_sig.specs.Trees.{schema_of, substituted};
+ghost use Rattle.law_sig.specs.Lists.{In, Each};
+ghost use Rattle.law_sig.specs.Trees.{schema_of, holes, substituted};
+ghost use Rattle.law_sig.specs.declared.tree.SortId.{SortId};
+ghost use Rattle.law_rewriting.specs.Pairs.{shifted};
 ghost use Rattle.law_bank.specs.declared.node.Node.{Node, out-Node};
 ghost use Rattle.law_bank.specs.declared.node.Node as node;
 ghost use Rattle.law_bank.specs.Terms.{tree_of, id_of};
@@ -195,6 +197,18 @@ impl<'a> TermBank<'a> {
         ensures grows { Grows self.old self.new }
     {
         let made = changed(self, Change::Flat, term)?;
+        Ok(made)
+    }
+
+    /// The term with a number added to the index of every variable.
+    pub fn shift(&mut self, term: Term<'a>, by: u32) -> Result<Term<'a>, NoMemory>
+        requires term { IsOf self.old term.now }
+        requires small { (sort : SortId) (index : ℕ) → In index (holes sort (tree_of term.now)) → index + by < 2 ^ 32 }
+        ensures tree { IfOk result (λ t. tree_of t.now ≡ substituted (shifted by) (tree_of term.now)) }
+        ensures held { IfOk result (λ t. IsOf self.new t.now) }
+        ensures grows { Grows self.old self.new }
+    {
+        let made = changed(self, Change::Shift(by), term)?;
         Ok(made)
     }
 
