@@ -16,7 +16,7 @@ use Rattle.law_bank.specs.Bindings.{Binding, bind_of, binds_of, subst_of}
 use Rattle.law_term.specs.Substs.{variable_of, IsBound, IsFree}
 
 -- a list by its first item and the rest, as a slice's pattern reads them
-first_rest : {A : Type 0} (xs : List A) (d : A) → 1 ≤ length xs → xs ≡ slice_index_or xs 0 d ∷ take (length xs - 1) (drop 1 xs)
+pub first_rest : {A : Type 0} (xs : List A) (d : A) → 1 ≤ length xs → xs ≡ slice_index_or xs 0 d ∷ take (length xs - 1) (drop 1 xs)
 first_rest [] d h = absurd (omega arith)
 first_rest (x ∷ xs) d h = ap (λ l. x ∷ l) (sym (take_all (length (x ∷ xs) - 1) xs (omega arith)))
 

@@ -2,3 +2,4 @@ pub mod Items
 pub mod Interning
 pub mod Walking
 pub mod Bound
+pub mod Placing

@@ -16,7 +16,6 @@ pub fn size(term: Term<'_>) -> u64
 }
 
 /// The weight of a term of any bank, or 2^64 - 1 where it is that or more. It is kept with the node.
-#[tactic(auto, using(law_bank::proofs::BankFacts::weight_is))]
 pub fn weight(term: Term<'_>) -> u64
     ensures { (bank : Terms) (parts : SigParts) → IsOf bank term.now → parts.settings.weights ≡ bank.weights → result ≡ capped (weight parts (tree_of term.now)) }
 {

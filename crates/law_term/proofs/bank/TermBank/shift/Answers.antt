@@ -5,7 +5,7 @@ use Rattle.law_rewriting.proofs.Variables.{agreeing}
 use Rattle.law_bank.specs.Terms.{tree_of}
 use Rattle.law_term.specs.declared.change.Change.TheVariants.{Shift}
 use Rattle.law_term.specs.Walks.{meaning}
-use Rattle.law_term.proofs.change.TermBank.shift.Goals as goal
+use Rattle.law_term.proofs.bank.TermBank.shift.Goals as goal
 
 pub returns-clause-tree : goal.returns-clause-tree
 returns-clause-tree c = c.in_ok-made.ensures.tree ∙ agreeing (meaning (Shift c.args.by)) (shifted c.args.by) (tree_of c.args.term.now)
