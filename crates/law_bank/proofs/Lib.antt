@@ -1,1 +1,2 @@
 pub mod BankFacts
+pub mod BindingFacts

@@ -1,9 +1,9 @@
 -- Terms of a bank for variables.
-use Rattle.std.specs.Prelude.{ℕ, List, map}
+use Rattle.std.specs.Prelude.{ℕ, List, [], ◌∷◌, map, Bool, ◌&&◌, ◌||◌, nat_lt, if◌then◌else◌}
 use denote.Bor.{Bor}
 use Rattle.law_sig.specs.Lists.{Each, Rising}
-use Rattle.law_sig.specs.Trees.{Subst}
-use Rattle.law_sig.specs.Chains.{StandsBefore, bound_in}
+use Rattle.law_sig.specs.Trees.{same_sort, Subst}
+use Rattle.law_sig.specs.Chains.{StandsBefore, is_bound, bound_in}
 use Rattle.law_sig.specs.declared.tree.SortId.{SortId}
 use Rattle.law_sig.specs.declared.chain.Bind.{Bind}
 use Rattle.law_bank.specs.declared.node.Node.{Node}
@@ -31,3 +31,13 @@ subst_of bindings = bound_in (binds_of bindings)
 -- the variables stand in order, by sort and then index
 abbrev pub AreRising : List Binding → Type 0
 AreRising bindings = Rising StandsBefore (binds_of bindings)
+
+-- whether a variable stands before another one
+abbrev pub comes_before : SortId → ℕ → SortId → ℕ → Bool
+comes_before s i u j = nat_lt s.0 u.0 || (same_sort s u && nat_lt i j)
+
+-- the bindings with one more, at its place; or in the place of the one that its variable had
+abbrev pub with_binding : Binding → List Binding → List Binding
+with_binding b [] = b ∷ []
+with_binding b (x ∷ xs) =
+    if is_bound b.0 b.1 (bind_of x) then b ∷ xs else (if comes_before x.0 x.1 b.0 b.1 then x ∷ with_binding b xs else b ∷ x ∷ xs)

@@ -4,7 +4,7 @@
 
 mod node;
 
-ghost use Rattle.law_bank.specs.Laws.{TermsStay, SameIdSameTree, SameTreeSameId};
+ghost use Rattle.law_bank.specs.Laws.{TermsStay, SameIdSameTree, SameTreeSameId, BindingIsPut, BindingsRise};
 
 pub use node::{Head, Node, Term};
 
@@ -13,4 +13,10 @@ pub fn bank_laws()
     ensures stays { TermsStay }
     ensures tree { SameIdSameTree }
     ensures id { SameTreeSameId }
+{}
+
+/// A binding that is put among others changes what its variable stands for and nothing else, and keeps them in order.
+pub fn binding_laws()
+    ensures put { BindingIsPut }
+    ensures rising { BindingsRise }
 {}
