@@ -15,7 +15,7 @@ use Rattle.law_rewriting.proofs.Binds.{bound_is, bound_itself}
 use Rattle.law_bank.specs.declared.node.Node.{Node}
 use Rattle.law_bank.specs.Terms.{tree_of}
 use Rattle.law_bank.specs.Bank.{Terms, IsOf}
-use Rattle.law_bank.specs.Bindings.{Binding, bind_of, binds_of, AllBound, subst_of, AreRising, comes_before, with_binding}
+use Rattle.law_bank.specs.Bindings.{Binding, bind_of, binds_of, AllBound, subst_of, AreRising, comes_before, with_binding, before_count}
 
 lt_yes : (m n : ℕ) → nat_lt m n ≡ true → m < n
 lt_yes m n e = search rules
@@ -66,10 +66,6 @@ onward a b c (inr h) (inl k) = let e = ap (λ (s : SortId). s.0) h.0 in inl (ome
 onward a b c (inr h) (inr k) = let l = h.1 in let m = k.1 in inr (h.0 ∙ k.0, omega (arith, l, m))
 
 -- What with_binding is where its variable stands, and where it doesn't
-
-abbrev pub before_count : SortId → ℕ → List Binding → ℕ
-before_count s i [] = 0
-before_count s i (x ∷ xs) = if comes_before x.0 x.1 s i then 1 + before_count s i xs else 0
 
 not_itself : (x b : Binding) → is_bound b.0 b.1 (bind_of x) ≡ true → comes_before x.0 x.1 b.0 b.1 ≡ true → ⊥
 not_itself x b e f =

@@ -1,5 +1,5 @@
 -- Terms of a bank for variables.
-use Rattle.std.specs.Prelude.{ℕ, List, [], ◌∷◌, map, Bool, ◌&&◌, ◌||◌, nat_lt, if◌then◌else◌}
+use Rattle.std.specs.Prelude.{ℕ, ◌+◌, List, [], ◌∷◌, map, Bool, ◌&&◌, ◌||◌, nat_lt, if◌then◌else◌}
 use denote.Bor.{Bor}
 use Rattle.law_sig.specs.Lists.{Each, Rising}
 use Rattle.law_sig.specs.Trees.{same_sort, Subst}
@@ -35,6 +35,11 @@ AreRising bindings = Rising StandsBefore (binds_of bindings)
 -- whether a variable stands before another one
 abbrev pub comes_before : SortId → ℕ → SortId → ℕ → Bool
 comes_before s i u j = nat_lt s.0 u.0 || (same_sort s u && nat_lt i j)
+
+-- how many bindings stand before the place of a variable
+abbrev pub before_count : SortId → ℕ → List Binding → ℕ
+before_count s i [] = 0
+before_count s i (x ∷ xs) = if comes_before x.0 x.1 s i then 1 + before_count s i xs else 0
 
 -- the bindings with one more, at its place; or in the place of the one that its variable had
 abbrev pub with_binding : Binding → List Binding → List Binding

@@ -3,3 +3,4 @@ pub mod Inside
 pub mod Walks
 pub mod Substs
 pub mod Places
+pub mod Turns
