@@ -1,5 +1,5 @@
 -- What the terms of a bank have in common.
-use Rattle.std.proofs.Common.{◌≡◌, ℕ, zero, suc, ◌+◌, ◌<◌, List, [], ◌∷◌, ◌++◌, length, map, ap, sym, ◌∙◌, refl, subst, Some, ◌⊎◌, inl, inr, append_assoc, append-nil}
+use Rattle.std.proofs.Common.{◌≡◌, ℕ, zero, suc, List, [], ◌∷◌, ◌++◌, map, ap, sym, ◌∙◌, refl, subst, Some, append_assoc, append-nil}
 use Rattle.std.specs.List.{slice_get}
 use Rattle.std.proofs.lemmas.Simd.{map-map}
 use denote.Bor.{Bor}
@@ -26,10 +26,10 @@ Of bank = (x : Node) × every-Node (IsHere bank) x
 -- the terms of a list, each with its proof
 abbrev paired : (bank : Terms) (bs : List (Bor Node)) → AllOf bank bs → List (Bor (Of bank))
 paired bank [] a = []
-paired bank (b ∷ bs) a = record {ref_ptr = b.ref_ptr; now = (b.now, a.0)} ∷ paired bank bs a.1
+paired bank (b ∷ bs) a = record { ref_ptr = b.ref_ptr; now = (b.now, a.0) } ∷ paired bank bs a.1
 
 abbrev first_of_pair : (bank : Terms) → Bor (Of bank) → Bor Node
-first_of_pair bank b = record {ref_ptr = b.ref_ptr; now = b.now.0}
+first_of_pair bank b = record { ref_ptr = b.ref_ptr; now = b.now.0 }
 
 paired_first : (bank : Terms) (bs : List (Bor Node)) (a : AllOf bank bs) → map (first_of_pair bank) (paired bank bs a) ≡ bs
 paired_first bank [] a = refl
@@ -41,7 +41,7 @@ all_first bank (b ∷ bs) = (b.now.1, all_first bank bs)
 
 -- the tree of a node, by its head and its arguments
 pub tree_of-out : (n : Node) → tree_of n ≡ tree_at (out-Node n).head (trees_of (out-Node n).args.now)
-tree_of-out n = fold_out-Node Tree tree_step n ∙ ap (tree_at (out-Node n).head) (map-map (λ (b : Bor Tree). b.now) (λ (b : Bor Node). record {ref_ptr = b.ref_ptr; now = tree_of b.now}) (out-Node n).args.now)
+tree_of-out n = fold_out-Node Tree tree_step n ∙ ap (tree_at (out-Node n).head) (map-map (λ (b : Bor Tree). b.now) (λ (b : Bor Node). record { ref_ptr = b.ref_ptr; now = tree_of b.now }) (out-Node n).args.now)
 
 pub var_tree : (n : Node) (s : SortId) (i : ℕ) → (out-Node n).head ≡ Var s i → tree_of n ≡ tree.Var s i
 var_tree n s i e = tree_of-out n ∙ ap (λ h. tree_at h (trees_of (out-Node n).args.now)) e
@@ -66,8 +66,8 @@ below bank n h =
 pub made : (bank : Terms) (n : Node) → AllOf bank (out-Node n).args.now → IsHere bank (out-Node n) → IsOf bank n
 made bank n a h =
     let o = out-Node n in
-    let y : Node-F (Of bank) = record {id = o.id; head = o.head; args = record {ref_ptr = o.args.ref_ptr; now = paired bank o.args.now a}; size = o.size; weight = o.weight; sort = o.sort} in
-    let e : map-Node (Of bank) Node (λ z. z.0) y ≡ o = ap (λ z. let m : Node-F Node = record o { args = record {ref_ptr = o.args.ref_ptr; now = z} } in m) (paired_first bank o.args.now a) in
+    let y : Node-F (Of bank) = record { id = o.id; head = o.head; args = record { ref_ptr = o.args.ref_ptr; now = paired bank o.args.now a }; size = o.size; weight = o.weight; sort = o.sort } in
+    let e : map-Node (Of bank) Node (λ z. z.0) y ≡ o = ap (λ z. let m : Node-F Node = record o { args = record { ref_ptr = o.args.ref_ptr; now = z } } in m) (paired_first bank o.args.now a) in
     subst (λ m. IsOf bank m) (roll-out-Node n) (every_made-Node (IsHere bank) o y e h)
 
 -- Same id, same tree
@@ -134,7 +134,7 @@ get_left (y ∷ xs) ys (suc i) x e = get_left xs ys i x e
 abbrev pub AllP : (Node → Type 0) → List (Bor Node) → Type 0
 AllP P bs = Each (λ (b : Bor Node). P b.now) bs
 
-all_such : (P : Node → Type 0) (bs : List (Bor ((n : Node) × P n))) → AllP P (map (λ (b : Bor ((n : Node) × P n)). let r : Bor Node = record {ref_ptr = b.ref_ptr; now = b.now.0} in r) bs)
+all_such : (P : Node → Type 0) (bs : List (Bor ((n : Node) × P n))) → AllP P (map (λ (b : Bor ((n : Node) × P n)). let r : Bor Node = record { ref_ptr = b.ref_ptr; now = b.now.0 } in r) bs)
 all_such P [] = tt
 all_such P (b ∷ bs) = (b.now.1, all_such P bs)
 
@@ -152,7 +152,7 @@ more_stays : (bank : Terms) (more : List Tree) (n : Node) → IsOf bank n → Is
 more_stays bank more = induct (λ n. IsOf bank n → IsOf (with_trees bank more) n) (λ n a h.
     let q = here bank n h in
     made (with_trees bank more) n (all_through bank (with_trees bank more) (out-Node n).args.now a (below bank n h))
-        (record {named = get_left bank.trees more _ _ q.named; fits = q.fits; earlier = q.earlier; size = q.size; weight = q.weight; sort = q.sort}))
+    (record { named = get_left bank.trees more _ _ q.named; fits = q.fits; earlier = q.earlier; size = q.size; weight = q.weight; sort = q.sort }))
 
 -- a term of a bank stays one
 pub stays : (old new : Terms) (n : Node) → Grows old new → IsOf old n → IsOf new n

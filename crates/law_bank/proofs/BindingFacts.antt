@@ -1,18 +1,16 @@
 -- A binding is put among others.
-use Rattle.std.proofs.Common.{◌≡◌, ℕ, zero, suc, ◌+◌, ◌<◌, ◌≤◌, rules, ◌⊎◌, inl, inr, Bool, true, false, ◌&&◌, ◌||◌, ◌==◌, nat_lt, if◌then◌else◌, List, [], ◌∷◌, map, insert, slice_set, slice_get, Some, None, ap, ap₂, sym, ◌∙◌, refl, subst, arith}
-use Rattle.std.proofs.lemmas.Bool.{eqb-true, eq-eqb}
+use Rattle.std.proofs.Common.{◌≡◌, ℕ, suc, ◌+◌, ◌<◌, ◌≤◌, rules, ◌⊎◌, inl, inr, Bool, true, false, ◌&&◌, ◌||◌, ◌==◌, nat_lt, if◌then◌else◌, List, [], ◌∷◌, map, insert, slice_set, slice_get, Some, ap, ap₂, sym, ◌∙◌, refl, subst, arith}
+use Rattle.std.proofs.lemmas.Bool.{eq-eqb}
 use native.Mathlib.Decide.{dec_lt}
-use denote.Bor.{Bor}
-use Rattle.law_sig.specs.Lists.{In, Each, Rising}
+use Rattle.law_sig.specs.Lists.{In, Each}
 use Rattle.law_sig.specs.Lists.In.{here, there}
 use Rattle.law_sig.specs.Trees.{same_sort}
-use Rattle.law_sig.specs.Chains.{StandsBefore, is_bound, bound_in}
+use Rattle.law_sig.specs.Chains.{StandsBefore, is_bound}
 use Rattle.law_sig.specs.declared.tree.SortId.{SortId}
 use Rattle.law_sig.specs.declared.chain.Bind.{Bind}
 use Rattle.law_laws.proofs.ListFacts.{in_rest, in_none, each_map}
-use Rattle.law_laws.proofs.Sorts.{same_sort_is, same_sort_itself, both_true}
+use Rattle.law_laws.proofs.Sorts.{same_sort_is, both_true}
 use Rattle.law_rewriting.proofs.Binds.{bound_is, bound_itself}
-use Rattle.law_bank.specs.declared.node.Node.{Node}
 use Rattle.law_bank.specs.Terms.{tree_of}
 use Rattle.law_bank.specs.Bank.{Terms, IsOf}
 use Rattle.law_bank.specs.Bindings.{Binding, bind_of, binds_of, AllBound, subst_of, AreRising, comes_before, with_binding, before_count}
@@ -187,11 +185,13 @@ module _ (b : Binding) where
       by later true p d q =
           let same = bound_is b.0 b.1 (bind_of x) p in
           let stay : (c : Bind) → StandsBefore (bind_of x) c → StandsBefore (bind_of b) c =
-              λ c. subst (λ (v : SortId × ℕ). (v.0.0 < c.sort.0) ⊎ ((v.0 ≡ c.sort) × (v.1 < c.index))) (λ i. (same.0 i, same.1 i)) in
+          λ c. subst (λ (v : SortId × ℕ). (v.0.0 < c.sort.0) ⊎ ((v.0 ≡ c.sort) × (v.1 < c.index))) (λ i. (same.0 i, same.1 i)) in
           (each_map (StandsBefore (bind_of x)) (StandsBefore (bind_of b)) stay (binds_of xs) h.0, h.1)
-      by later false p true q =
-          (mapped_each (StandsBefore (bind_of x)) (with_binding b xs)
-          (each_put (λ (y : Binding). StandsBefore (bind_of x) (bind_of y)) (before_is x b q) xs (unmapped (StandsBefore (bind_of x)) xs h.0)), later)
+      by later false p true q = (
+        mapped_each (StandsBefore (bind_of x)) (with_binding b xs)
+            (each_put (λ (y : Binding). StandsBefore (bind_of x) (bind_of y)) (before_is x b q) xs (unmapped (StandsBefore (bind_of x)) xs h.0)),
+        later,
+      )
       by later false p false q =
           let first = behind x b p q in
           ((first, each_map (StandsBefore (bind_of x)) (StandsBefore (bind_of b)) (λ c. onward (bind_of b) (bind_of x) c first) (binds_of xs) h.0), h)

@@ -1,19 +1,17 @@
 -- Look-ups of variables, and of what a change puts for one.
-use Rattle.std.proofs.Common.{◌≡◌, ℕ, ◌+◌, ◌-◌, ◌^◌, ◌<◌, ◌≤◌, ◌⊎◌, inl, inr, Bool, true, false, min, ◌==◌, ◌&&◌, if◌then◌else◌, List, [], ◌∷◌, length, map, zero, suc, slice_get, slice_set, insert, remove, take, drop, slice_index_or, Some, None, Option, MatchOption, IfSome, ap, sym, ◌∙◌, refl, subst, arith}
+use Rattle.std.proofs.Common.{◌≡◌, ℕ, ◌+◌, ◌-◌, ◌<◌, ◌≤◌, ◌⊎◌, inl, inr, Bool, true, false, if◌then◌else◌, List, [], ◌∷◌, length, map, zero, suc, slice_get, slice_set, insert, remove, take, drop, slice_index_or, Some, None, Option, MatchOption, ap, sym, ◌∙◌, refl, subst, arith}
 use denote.Bor.{Bor}
-use Rattle.law_sig.specs.Lists.{In, Each}
+use Rattle.law_sig.specs.Lists.{In}
 use Rattle.law_sig.specs.Lists.In.{here, there}
-use Rattle.law_sig.specs.Trees.{same_sort}
-use Rattle.law_sig.specs.Chains.{is_bound, bound_in}
+use Rattle.law_sig.specs.Chains.{is_bound}
 use Rattle.law_sig.specs.declared.tree.SortId.{SortId}
-use Rattle.law_sig.specs.declared.tree.Tree.TheVariants.{Var}
 use Rattle.law_laws.proofs.ListFacts.{in_rest, in_none}
 use Rattle.law_rewriting.proofs.Binds.{bound_itself, bound_is}
 use Rattle.std.proofs.lemmas.List.{take_all, drop_all}
 use Rattle.std.proofs.lemmas.Option.{slice_get_within}
 use Rattle.law_bank.specs.declared.node.Node.{Node}
 use Rattle.law_bank.specs.Terms.{tree_of}
-use Rattle.law_bank.specs.Bindings.{Binding, bind_of, binds_of, subst_of, comes_before, before_count, with_binding}
+use Rattle.law_bank.specs.Bindings.{Binding, bind_of, subst_of, comes_before, before_count, with_binding}
 use Rattle.law_bank.proofs.BindingFacts.{put_there, put_new}
 use Rattle.law_term.specs.Substs.{variable_of, IsBound, IsFree, is_there}
 
@@ -106,7 +104,6 @@ put_instead b bs mid new at e t m n =
 
 put_between : (b : Binding) (bs : List Binding) (at : ℕ) → at ≡ before_count b.0 b.1 bs → is_there b.0 b.1 (slice_get bs at) ≡ false → insert bs at b ≡ with_binding b bs
 put_between b bs at e t = ap (λ k. insert bs k b) e ∙ put_new b bs (λ y p. sym (ap (is_there b.0 b.1) p) ∙ ap (λ k. is_there b.0 b.1 (slice_get bs k)) (sym e) ∙ t)
-
 
 -- the same of what is read
 module _ (b : Binding) (bs seen again mid : List Binding) (at : ℕ) (there : Bool) (s : seen ≡ bs) (a : again ≡ bs) (e : at ≡ before_count b.0 b.1 seen) (t : there ≡ is_there b.0 b.1 (slice_get again at)) where

@@ -14,7 +14,7 @@ use Rattle.law_sig.specs.declared.parts.SigParts.{SigParts}
 use Rattle.law_sig.specs.declared.tree.SortId.{SortId}
 use Rattle.law_sig.specs.declared.tree.SymId.{SymId}
 use Rattle.law_sig.specs.declared.tree.Tree.{Tree}
-use Rattle.law_laws.proofs.ListFacts.{each_both, each_map, of_each, in_map}
+use Rattle.law_laws.proofs.ListFacts.{each_both, each_map, of_each}
 use Rattle.law_laws.proofs.TreeFacts.{nodes-Var, nodes-App}
 use Rattle.law_rewriting.specs.Heads.{head_sort}
 use Rattle.law_bank.specs.declared.node.Head.{Head}
@@ -22,7 +22,7 @@ use Rattle.law_bank.specs.declared.node.Head.TheVariants.{Var, Sym}
 use Rattle.law_bank.specs.declared.node.Node.{Node, out-Node, roll-out-Node}
 use Rattle.law_bank.specs.Terms.{tree_at, tree_of, trees_of, id_of, ids_of, Fits}
 use Rattle.law_bank.specs.Bank.{Terms, IsHere, IsOf, AllOf, IsShared, capped, sorts_by, with_trees}
-use Rattle.law_bank.proofs.BankFacts.{tree_of-out, made, named, tree_key, all_stay, get_left}
+use Rattle.law_bank.proofs.BankFacts.{tree_of-out, made, named, tree_key, all_stay}
 use Rattle.law_term.specs.Keys.{key, key_of}
 use Rattle.law_term.specs.Inside.{Entry, nodes_of}
 
@@ -159,15 +159,15 @@ module _ (sorts : List SortId) (weights : List ℕ) (ns : List (Bor Node)) (h : 
 
   is_here : IsHere more_terms (out-Node t.now)
   is_here = record {
-      named = again (λ m. slice_get more_terms.trees (id_of t.now) ≡ Some (tree_of m)) new_here;
-      fits = subst (λ z. Fits z (out-Node t.now).args.now) (sym w.head) (subst (λ z. Fits h z) (sym w.args) w.fits);
-      earlier = subst (Each (λ (b : Bor Node). id_of b.now < (out-Node t.now).id)) (sym w.args)
-          (each_map (λ (b : Bor Node). IsOf old_terms b.now) (λ (b : Bor Node). id_of b.now < (out-Node t.now).id) before bs w.over);
-      size = again (λ m. (out-Node t.now).size ≡ capped (node_count (tree_of m)))
-          (w.size ∙ ap capped (sym (ap node_count new_tree ∙ nodes_at h (trees_of bs) (fits_trees h bs w.fits))));
-      weight = λ parts e. again (λ m. (out-Node t.now).weight ≡ capped (weight parts (tree_of m))) (w.weight parts e ∙ ap (λ u. capped (weight parts u)) (sym new_tree));
-      sort = again (λ m. (out-Node t.now).sort ≡ head_sort (sorts_by sorts) (tree_of m)) (w.sort ∙ ap (head_sort (sorts_by sorts)) (sym new_tree));
-    }
+    named = again (λ m. slice_get more_terms.trees (id_of t.now) ≡ Some (tree_of m)) new_here;
+    fits = subst (λ z. Fits z (out-Node t.now).args.now) (sym w.head) (subst (λ z. Fits h z) (sym w.args) w.fits);
+    earlier = subst (Each (λ (b : Bor Node). id_of b.now < (out-Node t.now).id)) (sym w.args)
+        (each_map (λ (b : Bor Node). IsOf old_terms b.now) (λ (b : Bor Node). id_of b.now < (out-Node t.now).id) before bs w.over);
+    size = again (λ m. (out-Node t.now).size ≡ capped (node_count (tree_of m)))
+        (w.size ∙ ap capped (sym (ap node_count new_tree ∙ nodes_at h (trees_of bs) (fits_trees h bs w.fits))));
+    weight = λ parts e. again (λ m. (out-Node t.now).weight ≡ capped (weight parts (tree_of m))) (w.weight parts e ∙ ap (λ u. capped (weight parts u)) (sym new_tree));
+    sort = again (λ m. (out-Node t.now).sort ≡ head_sort (sorts_by sorts) (tree_of m)) (w.sort ∙ ap (head_sort (sorts_by sorts)) (sym new_tree));
+  }
 
   pub is_of : IsOf (terms sorts weights (ns ++ t ∷ [])) t.now
   is_of = subst (λ z. IsOf z t.now) (sym grown)

@@ -1,5 +1,5 @@
 -- A term with another one at a place, an argument at a time.
-use Rattle.std.proofs.Common.{◌≡◌, ℕ, zero, suc, ◌+◌, ◌-◌, ◌<◌, ◌≤◌, List, [], ◌∷◌, ◌++◌, length, map, take, drop, slice_get, slice_set, Some, None, Option, ap, sym, ◌∙◌, refl, subst, arith}
+use Rattle.std.proofs.Common.{◌≡◌, ℕ, zero, suc, ◌<◌, List, [], ◌∷◌, ◌++◌, length, take, drop, slice_get, slice_set, Some, None, ap, sym, ◌∙◌, refl, subst, arith}
 use Rattle.std.specs.Option.{option_map}
 use Rattle.std.proofs.lemmas.Option.{slice_get-map}
 use denote.Bor.{Bor}
@@ -95,15 +95,15 @@ module _ (n : Node) (k : ℕ) (rest place : List ℕ) (is : place ≡ k ∷ rest
         by : (h : Head) → Fits h args → tree_of n ≡ tree_at h (trees_of args) → tree_of w ≡ tree_at h (trees_of (slice_set args k u)) → IsReplaced new place (tree_of n) (tree_of w)
         by (Var s i) fits p q = let z : slice_get [] k ≡ Some m = ap (λ l. slice_get l k) (sym fits) ∙ at in absurd (cc)
         by (Sym f) fits p q = record {
-            from = r.from;
-            rewrites = subst (λ l. Rewrites r.from new l (tree_of n) (tree_of w)) (sym is)
-                (subst (λ j. Rewrites r.from new (j ∷ rest) (tree_of n) (tree_of w)) (trees_long (take k args) ∙ long_take args k m at)
-                (subst (λ z. Rewrites r.from new (length (trees_of (take k args)) ∷ rest) z (tree_of w))
-                (sym (p ∙ ap (tree.App f) (ap trees_of (cut args k m at) ∙ trees_append (take k args) (m ∷ drop (suc k) args))))
-                (subst (λ z. Rewrites r.from new (length (trees_of (take k args)) ∷ rest) (tree.App f (trees_of (take k args) ++ tree_of m.now ∷ trees_of (drop (suc k) args))) z)
-                (sym (q ∙ ap (tree.App f) (ap trees_of (set_cut args k m u at) ∙ trees_append (take k args) (u ∷ drop (suc k) args))))
-                (below f (trees_of (take k args)) (trees_of (drop (suc k) args)) rest (tree_of m.now) (tree_of u.now) r.rewrites))));
-          }
+          from = r.from;
+          rewrites = subst (λ l. Rewrites r.from new l (tree_of n) (tree_of w)) (sym is)
+              (subst (λ j. Rewrites r.from new (j ∷ rest) (tree_of n) (tree_of w)) (trees_long (take k args) ∙ long_take args k m at)
+              (subst (λ z. Rewrites r.from new (length (trees_of (take k args)) ∷ rest) z (tree_of w))
+              (sym (p ∙ ap (tree.App f) (ap trees_of (cut args k m at) ∙ trees_append (take k args) (m ∷ drop (suc k) args))))
+              (subst (λ z. Rewrites r.from new (length (trees_of (take k args)) ∷ rest) (tree.App f (trees_of (take k args) ++ tree_of m.now ∷ trees_of (drop (suc k) args))) z)
+              (sym (q ∙ ap (tree.App f) (ap trees_of (set_cut args k m u at) ∙ trees_append (take k args) (u ∷ drop (suc k) args))))
+              (below f (trees_of (take k args)) (trees_of (drop (suc k) args)) rest (tree_of m.now) (tree_of u.now) r.rewrites))));
+        }
 
 pub at_the_root : (new s : Tree) (place : List ℕ) → length place ≡ 0 → IsReplaced new place s new
 at_the_root new s [] e = record { from = s; rewrites = root }

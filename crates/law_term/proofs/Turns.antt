@@ -3,9 +3,9 @@ use Rattle.std.proofs.Common.{◌≡◌, ◌≢◌, ℕ, suc, ◌+◌, ◌≤◌
 use Rattle.std.specs.Bool.{MatchBool}
 use Rattle.std.proofs.lemmas.Bool.{eqb-true, eq-eqb}
 use denote.Bor.{Bor}
-use Rattle.law_sig.specs.Lists.{In, Each, total}
+use Rattle.law_sig.specs.Lists.{In, total}
 use Rattle.law_sig.specs.Lists.In.{here, there}
-use Rattle.law_sig.specs.Trees.{node_count, holes, substituted}
+use Rattle.law_sig.specs.Trees.{node_count, holes}
 use Rattle.law_sig.specs.Chains.{bound_in}
 use Rattle.law_sig.specs.declared.tree.SortId.{SortId}
 use Rattle.law_sig.specs.declared.tree.SymId.{SymId}
@@ -24,7 +24,7 @@ use Rattle.law_rewriting.proofs.Matches.{match_begun, match_done, match_split, m
 use Rattle.law_bank.specs.declared.node.Head.TheVariants as h'
 use Rattle.law_bank.specs.declared.node.Node.{Node, out-Node}
 use Rattle.law_bank.specs.Terms.{tree_of, trees_of, id_of}
-use Rattle.law_bank.specs.Bank.{Terms, IsOf, AllOf, IsShared, sorts_by}
+use Rattle.law_bank.specs.Bank.{Terms, IsOf, AllOf, IsShared}
 use Rattle.law_bank.specs.Bindings.{Binding, bind_of, binds_of, AreRising, with_binding}
 use Rattle.law_bank.proofs.BankFacts.{var_tree, sym_tree, same_tree, same_id}
 use Rattle.law_bank.proofs.BindingFacts.{put_in, in_put}
@@ -183,10 +183,11 @@ match_known bank r s i old known n d a b h w e p t ps g = by w e
 
     by : (w : Bool) → w ≡ (id_of known.now == id_of n.now) → MatchBool w (IsMatched r p t ps (binds_of old)) (HasNoMatch r p t)
     by true e = with_matching r p t _ _ (binds_of old) (λ made m. m) (record {
-        made = g.made;
-        matching = known_turn r p t s i (tree_of n.now) ps g.made g.matching own at refl refl (same_tree bank known.now n.now a b (eqb-true (id_of known.now) (id_of n.now) (sym e)));
-        kept = g.kept; only = g.only;
-      })
+      made = g.made;
+      matching = known_turn r p t s i (tree_of n.now) ps g.made g.matching own at refl refl (same_tree bank known.now n.now a b (eqb-true (id_of known.now) (id_of n.now) (sym e)));
+      kept = g.kept;
+      only = g.only;
+    })
     by false e = other_term r p t s i (tree_of n.now) ps g.made g.matching own at refl refl
         (λ q. true≢false (sym (eq-eqb (id_of known.now) (id_of n.now) (same_id bank known.now n.now d a b q)) ∙ sym e))
 
@@ -210,11 +211,11 @@ variables_are (b ∷ bs) = ap (λ l. variable_of b ∷ l) (variables_are bs)
 pub match_fresh : (r : Sorts) (s : SortId) (i : ℕ) (old new : List Binding) (n : Bor Node) → IsFree old s i → head_sort r (tree_of n.now) ≡ s → new ≡ with_binding (s, i, n) old
     → (p t : Tree) (ps : Problems) → IsMatched r p t ((Var s i, tree_of n.now) ∷ ps) (binds_of old) → IsMatched r p t ps (binds_of new)
 match_fresh r s i old new n free sorted e p t ps g = subst (λ l. IsMatched r p t ps (binds_of l)) (sym e) (record {
-    made = own ∷ g.made;
-    matching = fresh_turn r p t s i (tree_of n.now) ps g.made g.matching absent sorted;
-    kept = λ b at. kept b (in_rest at);
-    only = λ b at. only b (unmap (with_binding (s, i, n) old) b at);
-  })
+  made = own ∷ g.made;
+  matching = fresh_turn r p t s i (tree_of n.now) ps g.made g.matching absent sorted;
+  kept = λ b at. kept b (in_rest at);
+  only = λ b at. only b (unmap (with_binding (s, i, n) old) b at);
+})
   where
     own : Bind
     own = record { sort = s; index = i; term = tree_of n.now }

@@ -1,5 +1,5 @@
 -- A walk over the nodes of a term, step by step.
-use Rattle.std.proofs.Common.{◌≡◌, ℕ, ◌+◌, ◌*◌, ◌<◌, ◌≤◌, ◌⊎◌, inl, inr, Bool, true, false, cond, if◌then◌else◌, List, [], ◌∷◌, ◌++◌, length, map, Some, None, Option, IsSome, is_some, drop, append-nil, append_assoc, ap, sym, ◌∙◌, refl, subst, arith}
+use Rattle.std.proofs.Common.{◌≡◌, ℕ, ◌+◌, ◌*◌, ◌<◌, ◌≤◌, ◌⊎◌, inl, inr, Bool, true, false, cond, if◌then◌else◌, List, [], ◌∷◌, ◌++◌, length, map, Some, IsSome, is_some, drop, append-nil, append_assoc, ap, sym, ◌∙◌, refl, subst, arith}
 use Rattle.std.proofs.lemmas.List.{map-append, drop_all}
 use Rattle.std.proofs.lemmas.Bool.{eqb-true}
 use Rattle.indexmap.specs.IndexMap.{insert_entry}
@@ -22,7 +22,7 @@ use Rattle.law_term.specs.declared.change.Change.{Change}
 use Rattle.law_term.specs.declared.change.Change.TheVariants as change
 use Rattle.law_term.specs.declared.change.Visit.{Visit}
 use Rattle.law_term.specs.declared.change.Visit.TheVariants as visit
-use Rattle.law_term.specs.Walks.{IsChange, Done, same_id, found, AllMade, IsChanged, AllChanged, node_of, visit_id, IsVisit, IsCovered, NeedsArgs, IsReady, cost, steps, IsWalking, IsEntered, IsLeft}
+use Rattle.law_term.specs.Walks.{IsChange, Done, same_id, found, AllMade, IsChanged, AllChanged, visit_id, IsVisit, IsCovered, NeedsArgs, IsReady, cost, steps, IsWalking, IsEntered, IsLeft}
 use Rattle.law_term.proofs.Interning.{nodes_at, fits_trees}
 
 -- The table
@@ -161,28 +161,32 @@ module _ (start now : Terms) (σ : Subst) (term : Node) (done : Done) (before re
 
     pub walk_entered : (new : List Visit) → IsEntered done n rest new → IsWalking start now σ term done new
     walk_entered new (inl k) = record {
-        grows = w.grows; made = w.made; changed = w.changed;
-        visited = subst (Each (IsVisit start)) (sym k.1) (each_left (IsVisit start) rest (visit.Enter n ∷ []) (subst (Each (IsVisit start)) is w.visited));
-        ready = subst (IsReady done) (sym k.1) (ready_less done rest (visit.Enter n) k.0 (subst (IsReady done) is w.ready));
-        covered = subst (λ l. IsCovered done l (id_of term)) (sym k.1) (covers_less done rest (visit.Enter n) k.0 (id_of term) (subst (λ l. IsCovered done l (id_of term)) is w.covered));
-      }
+      grows = w.grows;
+      made = w.made;
+      changed = w.changed;
+      visited = subst (Each (IsVisit start)) (sym k.1) (each_left (IsVisit start) rest (visit.Enter n ∷ []) (subst (Each (IsVisit start)) is w.visited));
+      ready = subst (IsReady done) (sym k.1) (ready_less done rest (visit.Enter n) k.0 (subst (IsReady done) is w.ready));
+      covered = subst (λ l. IsCovered done l (id_of term)) (sym k.1) (covers_less done rest (visit.Enter n) k.0 (id_of term) (subst (λ l. IsCovered done l (id_of term)) is w.covered));
+    }
     walk_entered new (inr e) = record {
-        grows = w.grows; made = w.made; changed = w.changed;
-        visited = subst (Each (IsVisit start)) (sym e)
-            (each_both (IsVisit start) rest (visit.Leave n ∷ enters (out-Node n.now).args.now)
-            (each_left (IsVisit start) rest (visit.Enter n ∷ []) (subst (Each (IsVisit start)) is w.visited))
-            (top_entered, enters_visited start (out-Node n.now).args.now (below start n.now top_entered)));
-        ready = subst (IsReady done) (sym e) (ready_more done rest (enters (out-Node n.now).args.now) (visit.Enter n) (visit.Leave n) refl
-            (enters_need done n) (enters_ready done (out-Node n.now).args.now) (subst (IsReady done) is w.ready));
-        covered = subst (λ l. IsCovered done l (id_of term)) (sym e) (covers_more done rest (enters (out-Node n.now).args.now) (visit.Enter n) (visit.Leave n) refl (id_of term)
-            (subst (λ l. IsCovered done l (id_of term)) is w.covered));
-      }
+      grows = w.grows;
+      made = w.made;
+      changed = w.changed;
+      visited = subst (Each (IsVisit start)) (sym e)
+          (each_both (IsVisit start) rest (visit.Leave n ∷ enters (out-Node n.now).args.now)
+          (each_left (IsVisit start) rest (visit.Enter n ∷ []) (subst (Each (IsVisit start)) is w.visited))
+          (top_entered, enters_visited start (out-Node n.now).args.now (below start n.now top_entered)));
+      ready = subst (IsReady done) (sym e) (ready_more done rest (enters (out-Node n.now).args.now) (visit.Enter n) (visit.Leave n) refl
+          (enters_need done n) (enters_ready done (out-Node n.now).args.now) (subst (IsReady done) is w.ready));
+      covered = subst (λ l. IsCovered done l (id_of term)) (sym e) (covers_more done rest (enters (out-Node n.now).args.now) (visit.Enter n) (visit.Leave n) refl (id_of term)
+          (subst (λ l. IsCovered done l (id_of term)) is w.covered));
+    }
 
     pub fewer_entered : (new : List Visit) → IsEntered done n rest new → steps new < steps before
     fewer_entered new h =
         let args = (out-Node n.now).args.now in
         let count : node_count (tree_of n.now) ≡ 1 + total (map node_count (trees_of args)) =
-            ap node_count (tree_of-out n.now) ∙ nodes_at (out-Node n.now).head (trees_of args) (fits_trees _ _ (at_root start n.now top_entered).fits) in
+        ap node_count (tree_of-out n.now) ∙ nodes_at (out-Node n.now).head (trees_of args) (fits_trees _ _ (at_root start n.now top_entered).fits) in
         let whole : steps before ≡ steps rest + (2 * node_count (tree_of n.now) + 0) = ap steps is ∙ steps_append rest (visit.Enter n ∷ []) in
         by h count whole
       where
@@ -208,7 +212,7 @@ module _ (start now : Terms) (σ : Subst) (term : Node) (done : Done) (before re
     walk_left later new g l =
         let tree = l.is start top_left w.changed in
         let same : (j : ℕ) → same_id (id_of n.now) j ≡ true → IsChanged start σ (j, l.made) =
-            λ j q m of e. tree ∙ ap (substituted σ) (same_tree start n.now m top_left of (eqb-true (id_of n.now) j q ∙ sym e)) in
+        λ j q m of e. tree ∙ ap (substituted σ) (same_tree start n.now m top_left of (eqb-true (id_of n.now) j q ∙ sym e)) in
         record {
           grows = grows_on start now later w.grows g;
           made = subst (AllMade later) (sym l.noted)

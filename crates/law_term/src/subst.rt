@@ -75,12 +75,7 @@ fn place(bindings: &[(SortId, u32, Term<'_>)], sort: SortId, index: u32) -> usiz
 }
 
 /// Whether the binding at a place is that of a variable.
-fn is_there(
-    bindings: &[(SortId, u32, Term<'_>)],
-    at: usize,
-    sort: SortId,
-    index: u32,
-) -> bool
+fn is_there(bindings: &[(SortId, u32, Term<'_>)], at: usize, sort: SortId, index: u32) -> bool
     ensures { result ≡ is_there sort index (slice_get bindings.now at) }
 {
     match bindings.get(at) {

@@ -1,4 +1,4 @@
-use Rattle.std.proofs.Common.{◌+◌, map, refl, arith}
+use Rattle.std.proofs.Common.{◌+◌, map, refl}
 use denote.Bor.{Bor}
 use Rattle.law_sig.specs.Lists.{total}
 use Rattle.law_sig.specs.Tests.{weight}

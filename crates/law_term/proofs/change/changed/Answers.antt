@@ -1,10 +1,8 @@
-use Rattle.std.proofs.Common.{◌≡◌, ap, sym, ◌∙◌, subst, subst₂, List, [], ◌∷◌, ◌++◌}
+use Rattle.std.proofs.Common.{ap, sym, ◌∙◌, subst₂, [], ◌∷◌, ◌++◌}
 use Rattle.std.specs.Option.{option_copied}
-use denote.Bor.{Bor}
-use Rattle.law_bank.specs.declared.node.Node.{Node}
 use Rattle.law_term.specs.declared.change.Visit.{Visit}
 use Rattle.law_term.specs.declared.change.Visit.TheVariants as visit
-use Rattle.law_term.specs.Walks.{meaning, found, Done, IsWalking}
+use Rattle.law_term.specs.Walks.{meaning, IsWalking}
 use Rattle.law_term.proofs.Walking.{walk_start, walk_entered, fewer_entered, top_ready, walk_left, fewer_left, end_tree, end_held, change_stays, walk_ended}
 use Rattle.law_term.proofs.change.changed.Goals as goal
 

@@ -1,10 +1,10 @@
-use Rattle.std.proofs.Common.{◌≡◌, ap, ◌∙◌, map, Some, subst, sym, List}
+use Rattle.std.proofs.Common.{ap, ◌∙◌, subst, sym, List}
 use denote.Bor.{Bor}
 use Rattle.law_bank.specs.declared.node.Node.{Node, out-Node}
 use Rattle.law_bank.specs.declared.node.Head.TheVariants.{Sym}
-use Rattle.law_bank.specs.Terms.{tree_at, trees_of, id_of}
+use Rattle.law_bank.specs.Terms.{tree_at, trees_of}
 use Rattle.law_bank.specs.Bank.{AllOf}
-use Rattle.law_term.specs.Walks.{meaning, found}
+use Rattle.law_term.specs.Walks.{meaning}
 use Rattle.law_term.proofs.Walking.{images_held, changed_var, changed_sym}
 use Rattle.law_term.proofs.change.changed_node.Goals as goal
 

@@ -4,7 +4,7 @@ use Rattle.law_bank.specs.Terms.{tree_of}
 use Rattle.law_bank.specs.Bank.{sorts_by}
 use Rattle.law_bank.specs.Bindings.{AllBound, AreRising, binds_of}
 use Rattle.law_bank.proofs.BankFacts.{below}
-use Rattle.law_term.specs.Turns.{open_of, AllOpen}
+use Rattle.law_term.specs.Turns.{open_of}
 use Rattle.law_term.proofs.Turns.{start_held, pop_held, went_true, went_false, match_start, match_end, pop_smaller, var_top, sym_var, other_symbol, other_count, args_open, args_fewer}
 use Rattle.law_term.proofs.matching.matches.Goals as goal
 

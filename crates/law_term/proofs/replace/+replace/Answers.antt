@@ -1,7 +1,6 @@
-use Rattle.std.proofs.Common.{◌≡◌, ◌-◌, ℕ, rules, arith, subst, sym, ◌∙◌, take, drop, length, slice_index_or, MatchOption, Some, ap}
+use Rattle.std.proofs.Common.{◌-◌, rules, arith, subst, sym, ◌∙◌, take, drop, length, slice_index_or, MatchOption}
 use denote.Bor.{Bor}
 use Rattle.std.proofs.lemmas.Option.{slice_get_within}
-use Rattle.law_laws.proofs.ListFacts.{of_each}
 use Rattle.law_bank.specs.declared.node.Node.{Node, out-Node}
 use Rattle.law_bank.specs.Terms.{tree_of}
 use Rattle.law_bank.specs.Bank.{IsOf}
@@ -16,9 +15,13 @@ returns-in_default-clause-found t c = no_arg c.args.term.now (slice_index_or c.a
     (first_rest c.args.place.now 0 c.in-len1-up.len_at_least) (sym c.arg.ensures ∙ c.in_default.is)
 
 pub replace-requires : goal.replace-requires
-replace-requires t c = (search rules, (
+replace-requires t c = (
+  search rules,
+  (
     each_at (λ (b : Bor Node). IsOf c.args.bank.now b.now) (out-Node c.args.term.now).args.now (slice_index_or c.args.place.now 0 0) c.in-Some.below (below c.args.bank.now c.args.term.now c.requires.term) (sym c.arg.ensures ∙ c.in-Some.is),
-    c.requires.new))
+    c.requires.new,
+  ),
+)
 
 pub returns-in_default-2-clause-found : goal.returns-in_default-2-clause-found
 returns-in_default-2-clause-found t c =

@@ -1,9 +1,8 @@
-use Rattle.std.proofs.Common.{◌≡◌, ℕ, List, [], ◌∷◌, ◌++◌, subst, sym, ap, ◌∙◌, refl, None, Some}
+use Rattle.std.proofs.Common.{◌≡◌, [], ◌∷◌, subst, sym, ap, ◌∙◌}
 use Rattle.std.specs.Option.{option_copied}
 use Rattle.std.proofs.lemmas.List.{length-map}
 use Rattle.indexmap.proofs.CallerLemmas.{insert_entry-new}
 use Rattle.law_laws.proofs.ListFacts.{of_each, in_map}
-use Rattle.law_sig.specs.Lists.{In}
 use denote.Bor.{Bor}
 use Rattle.law_bank.specs.declared.node.Node.{Node, out-Node}
 use Rattle.law_sig.specs.Lists.{Each}
@@ -21,24 +20,24 @@ returns-in-Some-clause-tree c =
     let k = found_key c.in_ok-key.key c.self.inside.nodes.entries c.self.invariant.keyed c.in-Some.known.now f in
     let same = one_key (out-Node c.in-Some.known.now.now).head c.args.head _ _ (k ∙ c.in_ok-key.ensures) in
     let held : IsOf c.args.self.now c.in-Some.known.now.now = subst (λ b. IsOf b c.in-Some.known.now.now) c.self.view_is
-        (of_each (λ (b : Bor Node). IsOf (terms_in c.self.inside) b.now) (in_map (λ (e : Entry). e.1) f.in_entries) c.self.invariant.held) in
+    (of_each (λ (b : Bor Node). IsOf (terms_in c.self.inside) b.now) (in_map (λ (e : Entry). e.1) f.in_entries) c.self.invariant.held) in
     key_tree c.args.self.now c.in-Some.known.now.now held c.args.head c.args.args.now c.requires.held same.0 same.1
 
 is_new : (c : goal.In-Ok) → IsNew c.self.inside.sorts c.self.inside.weights (nodes_of c.self.inside.nodes.entries) c.args.head c.args.args.now c.in_ok-made.made
 is_new c = record {
-    held = c.self.invariant.held;
-    shared = c.self.invariant.shared;
-    fits = c.requires.fits;
-    over = subst (λ z. AllOf z c.args.args.now) (sym c.self.view_is) c.requires.held;
-    id = c.in_ok-made.ensures.id ∙ c.len.ensures.len ∙ sym (length-map c.self.inside.nodes.entries (λ (e : Entry). e.1));
-    head = c.in_ok-made.ensures.head_is;
-    args = c.in_ok-made.ensures.args_are;
-    size = c.in_ok-made.ensures.size ∙ c.size_over.ensures c.args.self.now c.requires.held;
-    weight = λ parts e. c.in_ok-made.ensures.weight ∙ c.weight_of.ensures parts (e ∙ ap (λ (b : Terms). b.weights) c.self.view_is);
-    sort = c.in_ok-made.ensures.sort ∙ c.sort_of.ensures (trees_of c.args.args.now) ∙ ap (λ (b : Terms). head_sort (sorts_by b.sorts) (tree_at c.args.head (trees_of c.args.args.now))) (sym c.self.view_is);
-    fresh = fresh c.in_ok-key.key c.args.head (ids_of c.args.args.now) c.in_ok-key.ensures c.self.inside.nodes.entries c.self.invariant.keyed
-        (absent (same_key c.in_ok-key.key) c.self.inside.nodes.entries (sym c.get.ensures.value ∙ ap option_copied c.in_default.is));
-  }
+  held = c.self.invariant.held;
+  shared = c.self.invariant.shared;
+  fits = c.requires.fits;
+  over = subst (λ z. AllOf z c.args.args.now) (sym c.self.view_is) c.requires.held;
+  id = c.in_ok-made.ensures.id ∙ c.len.ensures.len ∙ sym (length-map c.self.inside.nodes.entries (λ (e : Entry). e.1));
+  head = c.in_ok-made.ensures.head_is;
+  args = c.in_ok-made.ensures.args_are;
+  size = c.in_ok-made.ensures.size ∙ c.size_over.ensures c.args.self.now c.requires.held;
+  weight = λ parts e. c.in_ok-made.ensures.weight ∙ c.weight_of.ensures parts (e ∙ ap (λ (b : Terms). b.weights) c.self.view_is);
+  sort = c.in_ok-made.ensures.sort ∙ c.sort_of.ensures (trees_of c.args.args.now) ∙ ap (λ (b : Terms). head_sort (sorts_by b.sorts) (tree_at c.args.head (trees_of c.args.args.now))) (sym c.self.view_is);
+  fresh = fresh c.in_ok-key.key c.args.head (ids_of c.args.args.now) c.in_ok-key.ensures c.self.inside.nodes.entries c.self.invariant.keyed
+      (absent (same_key c.in_ok-key.key) c.self.inside.nodes.entries (sym c.get.ensures.value ∙ ap option_copied c.in_default.is));
+}
 
 is_put : (c : goal.In-Ok) → IsPut c.self.inside.sorts c.self.inside.weights c.self.inside.nodes.entries c.insert.new.self.entries c.args.head c.args.args.now c.in_ok-made.made
 is_put c = put c.self.inside.sorts c.self.inside.weights c.self.inside.nodes.entries c.insert.new.self.entries c.in_ok-key.key c.args.head c.args.args.now c.in_ok-made.made (is_new c)

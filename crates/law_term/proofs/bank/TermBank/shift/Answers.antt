@@ -1,4 +1,4 @@
-use Rattle.std.proofs.Common.{ℕ, ◌+◌, ◌-◌, ◌^◌, ◌≡◌, min, ap, ◌∙◌, arith}
+use Rattle.std.proofs.Common.{◌+◌, ◌-◌, ◌^◌, ◌≡◌, min, ap, ◌∙◌, arith}
 use Rattle.law_sig.specs.declared.tree.Tree.TheVariants.{Var}
 use Rattle.law_rewriting.specs.Pairs.{shifted}
 use Rattle.law_rewriting.proofs.Variables.{agreeing}

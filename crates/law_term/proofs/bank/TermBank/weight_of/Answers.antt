@@ -1,4 +1,4 @@
-use Rattle.std.proofs.Common.{ap, sym, ◌∙◌, ◌+◌, map, slice_index_or, refl}
+use Rattle.std.proofs.Common.{ap, sym, ◌∙◌, ◌+◌, map, slice_index_or}
 use Rattle.law_sig.specs.Lists.{total}
 use Rattle.law_sig.specs.Tests.{weight}
 use Rattle.law_laws.proofs.TreeFacts.{weight-Var, weight-App}

@@ -1,4 +1,4 @@
-use Rattle.std.proofs.Common.{◌≡◌, ◌<◌, ℕ, arith, length, ap, sym, ◌∙◌, subst}
+use Rattle.std.proofs.Common.{arith, ap, sym, ◌∙◌, subst}
 use Rattle.law_bank.specs.Bindings.{AreRising, with_binding, before_count}
 use Rattle.law_bank.proofs.BindingFacts.{put_rising}
 use Rattle.law_term.proofs.Bound.{count_within, bind_within, bind_over, bind_between}
