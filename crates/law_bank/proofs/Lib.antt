@@ -1,0 +1,2 @@
+pub mod BankFacts
+pub mod BindingFacts

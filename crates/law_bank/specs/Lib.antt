@@ -1,0 +1,4 @@
+pub mod Terms
+pub mod Bank
+pub mod Bindings
+pub mod Laws

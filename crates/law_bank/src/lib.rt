@@ -1,0 +1,22 @@
+//! Banks of shared terms: what a node is, what it means, and what stays so while a bank grows. Each function here has an empty
+//! body, and its contract is the law.
+#![tactic(auto)]
+
+mod node;
+
+ghost use Rattle.law_bank.specs.Laws.{TermsStay, SameIdSameTree, SameTreeSameId, BindingIsPut, BindingsRise};
+
+pub use node::{Head, Node, Term};
+
+/// A term of a bank stays one while the bank grows; terms of one bank have the same id exactly where they have the same tree.
+pub fn bank_laws()
+    ensures stays { TermsStay }
+    ensures tree { SameIdSameTree }
+    ensures id { SameTreeSameId }
+{}
+
+/// A binding that is put among others changes what its variable stands for and nothing else, and keeps them in order.
+pub fn binding_laws()
+    ensures put { BindingIsPut }
+    ensures rising { BindingsRise }
+{}
