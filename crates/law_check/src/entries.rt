@@ -1,7 +1,6 @@
 ghost use Rattle.std.specs.Prelude.{◌≡◌, ◌↔◌, [], ◌+◌, length, map, None, IfOk, IsTrue};
 ghost use Rattle.std.specs.List.{AllByRecursion};
-ghost use Rattle.law_ids.specs.Values.{Grows};
-ghost use Rattle.law_testing.specs.Values.{ArePools};
+ghost use Rattle.law_testing.specs.Evaluators.{AreReady, Extends};
 ghost use Rattle.law_cert_text.specs.Certificates.{IsTree};
 ghost use Rattle.law_named.specs.Named.{sort_named};
 ghost use Rattle.law_valid.specs.declared.certificate.Entry.TheVariants as e;
@@ -16,9 +15,8 @@ use law_cert_text::{Entry as Written, SortTree};
 use law_forest::{is_yes, judge_trees};
 use law_replay::schema;
 use law_sig::{Equation, NoMemory, Seq, SortId, Step, Tree};
-use law_test::{TermTable, Tester};
+use law_test::{Evaluator, TermTable, Tester};
 use law_valid::{Answer, Entry, Rule};
-use law_value::ValueBank;
 use std::alloc::Global;
 
 /// What the entries so far stated: equations by their numbers, spread schemas, live terms, and what is expected next.
@@ -41,16 +39,16 @@ fn is_numbered(seen: &Seen, number: u64) -> bool
 fn of_law(
     tester: &Tester,
     universe: &Universe,
-    bank: &mut ValueBank,
+    evaluator: &mut Evaluator<'_>,
     seen: &Seen,
     entry: u64,
     number: u64,
     q: &Equation,
 ) -> Result<Answer, NoMemory>
-    requires pools { ArePools tester.now.sig.now bank.old tester.now.pools.now }
+    requires pools { AreReady tester.now.sig.now evaluator.old tester.now.pools.now }
     requires universe { universe.now ≡ tester.now.sig.now }
     ensures answer { IfOk result (IsAnswerTo tester.now.sig.now seen.now entry (e.Law number q.now)) }
-    ensures grows { Grows bank.old bank.new }
+    ensures extends { Extends evaluator.old evaluator.new }
 {
     if !is_numbered(seen, number) {
         return Ok(Answer::No(Rule::V3, entry));
@@ -58,7 +56,7 @@ fn of_law(
     if !universe.has_sides(q) {
         return Ok(Answer::No(Rule::V3, entry));
     }
-    let answer = agree(tester, bank, Rule::V3, entry, q)?;
+    let answer = agree(tester, evaluator, Rule::V3, entry, q)?;
     Ok(answer)
 }
 
@@ -101,17 +99,17 @@ fn of_spread(tester: &Tester, seen: &Seen, entry: u64, spread: &Tree) -> Answer
 fn of_killed(
     tester: &Tester,
     universe: &Universe,
-    bank: &mut ValueBank,
+    evaluator: &mut Evaluator<'_>,
     seen: &Seen,
     entry: u64,
     q: &Equation,
     steps: &[Step],
 ) -> Result<Answer, NoMemory>
-    requires pools { ArePools tester.now.sig.now bank.old tester.now.pools.now }
+    requires pools { AreReady tester.now.sig.now evaluator.old tester.now.pools.now }
     requires universe { universe.now ≡ tester.now.sig.now }
     requires place { HasPlace tester.now.sig.now seen.now }
     ensures answer { IfOk result (IsAnswerTo tester.now.sig.now seen.now entry (e.Killed q.now steps.now)) }
-    ensures grows { Grows bank.old bank.new }
+    ensures extends { Extends evaluator.old evaluator.new }
 {
     if seen.agenda.awaits_term() {
         return Ok(Answer::No(Rule::V7, entry));
@@ -125,7 +123,7 @@ fn of_killed(
     if !holds {
         return Ok(Answer::No(Rule::V6, entry));
     }
-    let answer = agree(tester, bank, Rule::V6, entry, q)?;
+    let answer = agree(tester, evaluator, Rule::V6, entry, q)?;
     Ok(answer)
 }
 
@@ -146,16 +144,16 @@ fn of_live(tester: &Tester, seen: &Seen, entry: u64, term: &Tree) -> Answer
 /// What is found wrong with a moved term.
 fn of_moved(
     tester: &Tester,
-    bank: &mut ValueBank,
+    evaluator: &mut Evaluator<'_>,
     seen: &Seen,
     entry: u64,
     q: &Equation,
     steps: &[Step],
 ) -> Result<Answer, NoMemory>
-    requires pools { ArePools tester.now.sig.now bank.old tester.now.pools.now }
+    requires pools { AreReady tester.now.sig.now evaluator.old tester.now.pools.now }
     requires place { HasPlace tester.now.sig.now seen.now }
     ensures answer { IfOk result (IsAnswerTo tester.now.sig.now seen.now entry (e.Moved q.now steps.now)) }
-    ensures grows { Grows bank.old bank.new }
+    ensures extends { Extends evaluator.old evaluator.new }
 {
     if !seen.agenda.awaits_term() {
         return Ok(Answer::No(Rule::V5, entry));
@@ -171,7 +169,7 @@ fn of_moved(
     if !holds {
         return Ok(Answer::No(Rule::V7, entry));
     }
-    let answer = agree(tester, bank, Rule::V7, entry, q)?;
+    let answer = agree(tester, evaluator, Rule::V7, entry, q)?;
     Ok(answer)
 }
 
@@ -179,26 +177,26 @@ fn of_moved(
 fn of_entry(
     tester: &Tester,
     universe: &Universe,
-    bank: &mut ValueBank,
+    evaluator: &mut Evaluator<'_>,
     seen: &Seen,
     number: u64,
     entry: &Entry,
 ) -> Result<Answer, NoMemory>
-    requires pools { ArePools tester.now.sig.now bank.old tester.now.pools.now }
+    requires pools { AreReady tester.now.sig.now evaluator.old tester.now.pools.now }
     requires universe { universe.now ≡ tester.now.sig.now }
     requires place { HasPlace tester.now.sig.now seen.now }
     ensures answer { IfOk result (IsAnswerTo tester.now.sig.now seen.now number entry.now) }
-    ensures grows { Grows bank.old bank.new }
+    ensures extends { Extends evaluator.old evaluator.new }
 {
     match entry {
-        Entry::Law(own, q) => of_law(tester, universe, bank, seen, number, *own, q),
+        Entry::Law(own, q) => of_law(tester, universe, evaluator, seen, number, *own, q),
         Entry::Lemma(own, q, steps) => of_lemma(tester, seen, number, *own, q, steps.as_slice()),
         Entry::Spread(schema) => Ok(of_spread(tester, seen, number, schema)),
         Entry::Killed(q, steps) => {
-            of_killed(tester, universe, bank, seen, number, q, steps.as_slice())
+            of_killed(tester, universe, evaluator, seen, number, q, steps.as_slice())
         }
         Entry::Live(term) => Ok(of_live(tester, seen, number, term)),
-        Entry::Moved(q, steps) => of_moved(tester, bank, seen, number, q, steps.as_slice()),
+        Entry::Moved(q, steps) => of_moved(tester, evaluator, seen, number, q, steps.as_slice()),
     }
 }
 
@@ -400,11 +398,11 @@ pub(crate) fn judge_entries(
     tester: &Tester,
     universe: &Universe,
     names: &Names,
-    bank: &mut ValueBank,
+    evaluator: &mut Evaluator<'_>,
     entries: &[Written],
     trees: &[SortTree],
 ) -> Result<Answer, NoMemory>
-    requires pools { ArePools tester.now.sig.now bank.old tester.now.pools.now }
+    requires pools { AreReady tester.now.sig.now evaluator.old tester.now.pools.now }
     requires universe { universe.now ≡ tester.now.sig.now }
     requires names { names.now ≡ tester.now.sig.now }
     requires trees { AllByRecursion IsTree trees.now }
@@ -414,7 +412,7 @@ pub(crate) fn judge_entries(
     for (at, written) in entries.iter().enumerate() {
         let entry = names.entry(tester.alloc, written)?;
         let number = at as u64 + 1;
-        let answer = of_entry(tester, universe, bank, &seen, number, &entry)?;
+        let answer = of_entry(tester, universe, evaluator, &seen, number, &entry)?;
         if !is_yes(&answer) {
             return Ok(answer);
         }
@@ -429,6 +427,6 @@ pub(crate) fn judge_entries(
     let spreads = seen.spreads.as_slice();
     let lives = seen.lives.as_slice();
     let sorts = named.as_slice();
-    let found = judge_trees(tester, bank, spreads, lives, sorts, trees, number)?;
+    let found = judge_trees(tester, evaluator, spreads, lives, sorts, trees, number)?;
     Ok(found)
 }

@@ -13,7 +13,7 @@ use law_forest::is_yes;
 use law_gen::GenErr;
 use law_pool::Pools;
 use law_sig::{NoMemory, Sig};
-use law_test::{Tester, pools_of};
+use law_test::{Evaluator, Tester, pools_of};
 use law_valid::{Answer, Rule};
 use law_value::ValueBank;
 use std::alloc::Global;
@@ -23,29 +23,30 @@ fn judge_pools(
     alloc: Global,
     sig: &Sig,
     cert: &Cert,
-    bank: &mut ValueBank,
+    bank: ValueBank,
     pools: &Pools,
 ) -> Result<Answer, NoMemory>
     requires text { IsCertText cert.now }
-    requires pools { ArePools sig.now bank.old pools.now }
+    requires pools { ArePools sig.now bank pools.now }
     ensures { IfOk result (JudgedPools sig.now cert.now) }
 {
     let names = Names::new(alloc, sig)?;
-    let values = pools.written(alloc, bank)?;
+    let values = pools.written(alloc, &bank)?;
     let written = cert.pools.as_slice();
     let same = are_pools(alloc, &names, written, values.as_slice())?;
     if !same {
         return Ok(Answer::No(Rule::V2, 0));
     }
     let tester = Tester { alloc, sig, pools };
-    let answer = background(&tester, bank)?;
+    let mut evaluator = Evaluator::new(alloc, sig, bank);
+    let answer = background(&tester, &mut evaluator)?;
     if !is_yes(&answer) {
         return Ok(answer);
     }
     let universe = Universe::new(alloc, sig)?;
     let entries = cert.entries.as_slice();
     let trees = cert.trees.as_slice();
-    let found = judge_entries(&tester, &universe, &names, bank, entries, trees)?;
+    let found = judge_entries(&tester, &universe, &names, &mut evaluator, entries, trees)?;
     Ok(found)
 }
 
@@ -62,7 +63,7 @@ pub(crate) fn judge(alloc: Global, sig: &Sig, cert: &Cert) -> Result<Answer, NoM
     let mut bank = ValueBank::new(alloc);
     match pools_of(alloc, sig, &mut bank) {
         Ok(pools) => {
-            let answer = judge_pools(alloc, sig, cert, &mut bank, &pools)?;
+            let answer = judge_pools(alloc, sig, cert, bank, &pools)?;
             Ok(answer)
         }
         Err(GenErr::ValueTooLarge { pool: _, sort: _ }) => Ok(Answer::No(Rule::V1, 0)),

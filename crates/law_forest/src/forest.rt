@@ -1,10 +1,10 @@
 ghost use Rattle.std.specs.Prelude.{◌≡◌, ◌+◌, ◌<◌, ◌↔◌, ◌^◌, length, map, slice_get, Some, IfOk, IsTrue};
 ghost use Rattle.law_sig.specs.Lists.{In, Each, AreDistinct};
 ghost use Rattle.law_sig.specs.declared.tree.Tree.{Tree};
-ghost use Rattle.law_ids.specs.Values.{Grows};
 ghost use Rattle.law_cert_text.specs.declared.cert.SortTree.{SortTree};
 ghost use Rattle.law_named.specs.Named.{sort_named};
-ghost use Rattle.law_testing.specs.Values.{ArePools, IsTestable};
+ghost use Rattle.law_test.specs.Values.{IsTestable};
+ghost use Rattle.law_testing.specs.Evaluators.{AreReady, Extends};
 ghost use Rattle.law_checking.specs.Planted.{IsOfSort, IsOutside, IsBelow, IsNextSort, HaveKids, JudgesTrees};
 
 use super::groups::{grouped, is_of_sort};
@@ -12,9 +12,8 @@ use super::trees::Grove;
 use super::values::is_yes;
 use law_cert_text::SortTree;
 use law_sig::{NoMemory, Sig, SortId, Tree};
-use law_test::Tester;
+use law_test::{Evaluator, Tester};
 use law_valid::{Answer, Rule};
-use law_value::ValueBank;
 
 /// Whether a term's sort isn't among those from one on and below another.
 fn is_outside(sig: &Sig, term: &Tree, from: u64, to: u64) -> bool
@@ -96,14 +95,14 @@ fn sort_at(sorts: &[SortId], at: usize) -> SortId
 /// What is wrong with the trees of a certificate, which go on counting from this entry on. Their sorts come by number.
 pub fn judge_trees(
     tester: &Tester,
-    bank: &mut ValueBank,
+    evaluator: &mut Evaluator<'_>,
     spreads: &[Tree],
     lives: &[Tree],
     sorts: &[SortId],
     trees: &[SortTree],
     entry: u64,
 ) -> Result<Answer, NoMemory>
-    requires pools { ArePools tester.now.sig.now bank.old tester.now.pools.now }
+    requires pools { AreReady tester.now.sig.now evaluator.old tester.now.pools.now }
     requires spreads { Each (IsTestable tester.now.sig.now) spreads.now }
     requires lives { Each (IsTestable tester.now.sig.now) lives.now }
     requires distinct { AreDistinct spreads.now }
@@ -111,7 +110,7 @@ pub fn judge_trees(
     requires kids { Each HaveKids trees.now }
     requires entry { entry + length trees.now < 2 ^ 64 }
     ensures answer { IfOk result (JudgesTrees tester.now.sig.now spreads.now lives.now trees.now entry) }
-    ensures grows { Grows bank.old bank.new }
+    ensures extends { Extends evaluator.old evaluator.new }
 {
     let groups = grouped(tester.alloc, spreads, lives)?;
     let grove = Grove {
@@ -127,7 +126,7 @@ pub fn judge_trees(
         if !is_next(tester.sig, spreads, from, sort) {
             return Ok(Answer::No(Rule::V8, number));
         }
-        let found = grove.judge_tree(bank, number, sort, tree.lines.as_slice())?;
+        let found = grove.judge_tree(evaluator, number, sort, tree.lines.as_slice())?;
         if !is_yes(&found) {
             return Ok(found);
         }

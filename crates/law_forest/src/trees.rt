@@ -2,14 +2,14 @@ ghost use Rattle.std.specs.Prelude.{◌≡◌, ◌<◌, ◌↔◌, List, IfOk, I
 ghost use Rattle.indexmap.specs.IndexMap.{get};
 ghost use Rattle.law_sig.specs.Lists.{Each};
 ghost use Rattle.law_sig.specs.declared.tree.Tree.{Tree};
-ghost use Rattle.law_ids.specs.Values.{Grows};
-ghost use Rattle.law_draws.specs.Draws.{pools_by};
+ghost use Rattle.law_gen.specs.Draws.{pools_by};
 ghost use Rattle.law_cert_text.specs.declared.cert.TreeLine.{TreeLine};
 ghost use Rattle.law_cert_text.specs.declared.cert.TreeLine.TheVariants.{Class, Split as SplitLine};
 ghost use Rattle.law_valid.specs.declared.rule.Answer.TheVariants.{Yes};
 ghost use Rattle.law_valid.specs.Trees.{AreRising, IsTest, IsFlatTest};
 ghost use Rattle.law_valid.specs.Judged.{CutsTell};
-ghost use Rattle.law_testing.specs.Values.{ArePools, IsTestable, tests_by};
+ghost use Rattle.law_test.specs.Values.{ArePools, IsTestable, tests_by};
+ghost use Rattle.law_testing.specs.Evaluators.{AreReady, Extends};
 ghost use Rattle.law_checking.specs.declared.part.Part.TheVariants.{Tests};
 ghost use Rattle.law_checking.specs.Lines.{part_of, parts_of, Held, held_at, held_in, judging_at, judgings};
 ghost use Rattle.law_checking.specs.Planted.{AreGroups, AreSchemasOf, AreTermsOf, JudgesTree, same_number};
@@ -23,9 +23,8 @@ use indexmap::IndexMap;
 use law_cert_text::TreeLine;
 use law_checking::Part;
 use law_sig::{NoMemory, Seq, SortId, Tree};
-use law_test::Tester;
+use law_test::{Evaluator, Tester};
 use law_valid::{Answer, Rule};
-use law_value::ValueBank;
 
 /// Whether numbers rise.
 #[tactic(auto, using(law_checking::proofs::Treeing::rising_first, law_checking::proofs::Treeing::rising_next, law_checking::proofs::Treeing::not_rising, law_checking::proofs::Treeing::all_rise))]
@@ -169,18 +168,18 @@ impl<'s> Grove<'s> {
     /// Whether a split tells what stands below it apart.
     fn judge_split(
         &self,
-        bank: &mut ValueBank,
+        evaluator: &mut Evaluator<'_>,
         entry: u64,
         test: u64,
         count: u64,
         rest: &[TreeLine],
     ) -> Result<Answer, NoMemory>
-        requires pools { ArePools self.now.tester.sig.now bank.old self.now.tester.pools.now }
+        requires pools { AreReady self.now.tester.sig.now evaluator.old self.now.tester.pools.now }
         requires spreads { Each (IsTestable self.now.tester.sig.now) self.now.spreads.now }
         requires lives { Each (IsTestable self.now.tester.sig.now) self.now.lives.now }
         requires test { test < tests_by self.now.tester.sig.now }
         ensures answer { IfOk result (CutsTell self.now.tester.sig.now (pools_by self.now.tester.sig.now) entry (judging_at self.now.spreads.now self.now.lives.now (SplitLine test count) rest.now) (λ b. b ≡ Yes)) }
-        ensures grows { Grows bank.old bank.new }
+        ensures extends { Extends evaluator.old evaluator.new }
     {
         if is_upper(rest) {
             let kids = kids_of(self.tester.alloc, Part::Schemas, count, rest)?;
@@ -191,7 +190,7 @@ impl<'s> Grove<'s> {
                 terms: self.spreads,
                 test,
             };
-            return split.judge(bank, kids.as_slice());
+            return split.judge(evaluator, kids.as_slice());
         }
         let kids = kids_of(self.tester.alloc, Part::Leaves, count, rest)?;
         let split = Split {
@@ -201,26 +200,28 @@ impl<'s> Grove<'s> {
             terms: self.lives,
             test,
         };
-        split.judge(bank, kids.as_slice())
+        split.judge(evaluator, kids.as_slice())
     }
 
     /// The same of a line, if it is a split.
     fn judge_line(
         &self,
-        bank: &mut ValueBank,
+        evaluator: &mut Evaluator<'_>,
         entry: u64,
         line: &TreeLine,
         rest: &[TreeLine],
     ) -> Result<Answer, NoMemory>
-        requires pools { ArePools self.now.tester.sig.now bank.old self.now.tester.pools.now }
+        requires pools { AreReady self.now.tester.sig.now evaluator.old self.now.tester.pools.now }
         requires spreads { Each (IsTestable self.now.tester.sig.now) self.now.spreads.now }
         requires lives { Each (IsTestable self.now.tester.sig.now) self.now.lives.now }
         requires tests { Each (IsTest self.now.tester.sig.now (pools_by self.now.tester.sig.now)) (part_of Tests line.now) }
         ensures answer { IfOk result (CutsTell self.now.tester.sig.now (pools_by self.now.tester.sig.now) entry (judging_at self.now.spreads.now self.now.lives.now line.now rest.now) (λ b. b ≡ Yes)) }
-        ensures grows { Grows bank.old bank.new }
+        ensures extends { Extends evaluator.old evaluator.new }
     {
         match line {
-            TreeLine::Split { test, count } => self.judge_split(bank, entry, *test, *count, rest),
+            TreeLine::Split { test, count } => self.judge_split(
+                evaluator, entry, *test, *count, rest,
+            ),
             TreeLine::Class(_) => Ok(Answer::Yes),
             TreeLine::Leaf(_) => Ok(Answer::Yes),
         }
@@ -229,20 +230,20 @@ impl<'s> Grove<'s> {
     /// The same of each split, in the order of the lines.
     fn judge_splits(
         &self,
-        bank: &mut ValueBank,
+        evaluator: &mut Evaluator<'_>,
         entry: u64,
         lines: &[TreeLine],
     ) -> Result<Answer, NoMemory>
-        requires pools { ArePools self.now.tester.sig.now bank.old self.now.tester.pools.now }
+        requires pools { AreReady self.now.tester.sig.now evaluator.old self.now.tester.pools.now }
         requires spreads { Each (IsTestable self.now.tester.sig.now) self.now.spreads.now }
         requires lives { Each (IsTestable self.now.tester.sig.now) self.now.lives.now }
         requires tests { Each (IsTest self.now.tester.sig.now (pools_by self.now.tester.sig.now)) (parts_of Tests lines.now) }
         ensures answer { IfOk result (CutsTell self.now.tester.sig.now (pools_by self.now.tester.sig.now) entry (judgings self.now.spreads.now self.now.lives.now lines.now) (λ b. b ≡ Yes)) }
-        ensures grows { Grows bank.old bank.new }
+        ensures extends { Extends evaluator.old evaluator.new }
     {
         let mut left = lines;
         while let Some((line, rest)) = left.split_first() {
-            let found = self.judge_line(bank, entry, line, rest)?;
+            let found = self.judge_line(evaluator, entry, line, rest)?;
             if !is_yes(&found) {
                 return Ok(found);
             }
@@ -254,17 +255,17 @@ impl<'s> Grove<'s> {
     /// What is wrong with the tree of a sort.
     pub fn judge_tree(
         &self,
-        bank: &mut ValueBank,
+        evaluator: &mut Evaluator<'_>,
         entry: u64,
         sort: SortId,
         lines: &[TreeLine],
     ) -> Result<Answer, NoMemory>
-        requires pools { ArePools self.now.tester.sig.now bank.old self.now.tester.pools.now }
+        requires pools { AreReady self.now.tester.sig.now evaluator.old self.now.tester.pools.now }
         requires spreads { Each (IsTestable self.now.tester.sig.now) self.now.spreads.now }
         requires lives { Each (IsTestable self.now.tester.sig.now) self.now.lives.now }
         requires groups { AreGroups self.now.spreads.now self.now.lives.now (get same_number self.now.groups.now) }
         ensures answer { IfOk result (JudgesTree self.now.tester.sig.now (pools_by self.now.tester.sig.now) self.now.spreads.now self.now.lives.now entry sort lines.now (λ b. b ≡ Yes)) }
-        ensures grows { Grows bank.old bank.new }
+        ensures extends { Extends evaluator.old evaluator.new }
     {
         if !self.has_schemas(sort, lines)? {
             return Ok(Answer::No(Rule::V8, entry));
@@ -276,6 +277,6 @@ impl<'s> Grove<'s> {
         if !are_tests(&self.tester, tests.as_slice()) {
             return Ok(Answer::No(Rule::V9, entry));
         }
-        self.judge_splits(bank, entry, lines)
+        self.judge_splits(evaluator, entry, lines)
     }
 }

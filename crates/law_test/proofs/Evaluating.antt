@@ -16,20 +16,10 @@ use Rattle.law_ids.proofs.Reading.{grows_not, grows_on, id_keeps, ids_keep, each
 use Rattle.law_test.specs.declared.memo.Key.{Key}
 use Rattle.law_test.specs.declared.memo.Known.{Known}
 use Rattle.law_testing.specs.Values.{IsTestable, IsValue, Both, val_by, applied_value}
-use Rattle.law_test.specs.Memo.{Gives, row_of, IsRight, AreRight, Values, AreReady, Extends}
+use Rattle.law_test.specs.Memo.{Gives, row_of, IsRight, AreRight}
+use Rattle.law_testing.specs.Evaluators.{Values, AreReady, Extends}
 use Rattle.law_testing.proofs.BothFacts.{both_more, both_map}
 use Rattle.law_testing.proofs.Testing.{pools_stay, value_stays, few_args, HasValues}
-
--- One evaluator after another
-
-pub extends_not : (a : Values) → Extends a a
-extends_not a = record { own = refl; grows = grows_not a.bank }
-
-pub extends_on : (a b c : Values) → Extends a b → Extends b c → Extends a c
-extends_on a b c g h = record { own = h.own ∙ g.own; grows = grows_on a.bank b.bank c.bank g.grows h.grows }
-
-pub ready_stays : (parts : SigParts) (old new : Values) (table : PoolTable) → Extends old new → AreReady parts old table → AreReady parts new table
-ready_stays parts old new table e r = record { own = e.own ∙ r.own; pools = pools_stay parts old.bank new.bank table e.grows r.pools }
 
 -- What is known stays when the bank grows
 

@@ -1,7 +1,8 @@
 ghost use Rattle.std.specs.Prelude.{◌≡◌, ◌<◌, ◌^◌, length, None, IfOk, IsErrOf};
 ghost use Rattle.law_ids.specs.Values.{AreOf, IsShared};
 ghost use Rattle.law_testing.specs.Values.{IsTestable, IsValue, applied_value, tests_by, val_by};
-ghost use Rattle.law_test.specs.Memo.{Gives, AreReady, Extends};
+ghost use Rattle.law_test.specs.Memo.{Gives};
+ghost use Rattle.law_testing.specs.Evaluators.{AreReady, Extends};
 
 use super::memo::{Known, Memo, key_of};
 use super::values::Tester;
@@ -25,7 +26,8 @@ impl<'s> Model for Evaluator<'s> {
     ghost use Rattle.std.specs.Coded.{codes};
     ghost use Rattle.law_sig.specs.contracts.tree.Tree as tree;
     ghost use Rattle.law_sig.specs.contracts.tree.Body as body;
-    ghost use Rattle.law_test.specs.Memo.{Values, AreRight};
+    ghost use Rattle.law_test.specs.Memo.{AreRight};
+    ghost use Rattle.law_testing.specs.Evaluators.{Values};
 
     ghost Value = { Values };
 

@@ -1,2 +1,3 @@
 pub mod BothFacts
 pub mod Testing
+pub mod EvaluatorFacts

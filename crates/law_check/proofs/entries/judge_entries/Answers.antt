@@ -1,10 +1,9 @@
 use Rattle.std.proofs.Common.{◌+◌, ◌∙◌, [], None, length, map, refl, sym, ap, subst}
 use Rattle.std.proofs.lemmas.Option.{slice_get_read}
-use Rattle.law_ids.proofs.Reading.{grows_not, grows_on}
 use Rattle.law_sig.specs.Lists.{Each, AreDistinct}
 use Rattle.law_cert_text.specs.declared.cert.SortTree.{SortTree}
-use Rattle.law_testing.specs.Values.{IsTestable}
-use Rattle.law_testing.proofs.Testing.{pools_stay}
+use Rattle.law_test.specs.Values.{IsTestable}
+use Rattle.law_testing.proofs.EvaluatorFacts.{extends_not, extends_on, ready_stays}
 use Rattle.law_named.specs.Named.{sort_named, entry_named}
 use Rattle.law_check.specs.Seeing.{sight, HasSeen, IsPassed, IsAnswerTo, SeesMore}
 use Rattle.law_checking.proofs.WalkFacts.{have_kids, walked_start, walked_place, walked_terms, walked_fault, walked_passed, walked_on, end_fault, end_trees}
@@ -14,11 +13,11 @@ pub loop-at-init : goal.loop-at-init
 loop-at-init c = record {
   walked = walked_start c.args.tester.now.sig.now c.args.entries.now (sight c.in_ok-seen.seen)
       (subst (λ p. HasSeen p [] None c.in_ok-seen.seen) c.requires.universe c.in_ok-seen.ensures);
-  grows = grows_not c.args.bank.now;
+  extends = extends_not c.args.evaluator.now;
 }
 
 pub of_entry-requires-clause-pools : goal.of_entry-requires-clause-pools
-of_entry-requires-clause-pools c = pools_stay c.args.tester.now.sig.now c.args.bank.now c.loop-at.bank c.args.tester.now.pools.now c.loop-at.invariant.grows c.requires.pools
+of_entry-requires-clause-pools c = ready_stays c.args.tester.now.sig.now c.args.evaluator.now c.loop-at.evaluator c.args.tester.now.pools.now c.loop-at.invariant.extends c.requires.pools
 
 pub of_entry-requires-clause-place : goal.of_entry-requires-clause-place
 of_entry-requires-clause-place c = walked_place c.args.tester.now.sig.now c.args.entries.now c.loop-at.at (sight c.loop-at.seen) c.loop-at.invariant.walked
@@ -45,7 +44,7 @@ loop-at-preserved c = record {
       (subst (λ p. SeesMore c.args.tester.now.sig.now c.loop-at.seen (entry_named p c.index-entries-at.result) c.in_ok-seen-2.seen) c.requires.names
       (subst (λ x. SeesMore c.args.tester.now.sig.now c.loop-at.seen x c.in_ok-seen-2.seen) c.in_ok-entry.ensures
       (subst (λ p. SeesMore p c.loop-at.seen c.in_ok-entry.entry c.in_ok-seen-2.seen) c.requires.universe c.in_ok-seen-2.ensures)));
-  grows = grows_on c.args.bank.now c.loop-at.bank c.of_entry.new.bank c.loop-at.invariant.grows c.of_entry.ensures.grows;
+  extends = extends_on c.args.evaluator.now c.loop-at.evaluator c.of_entry.new.evaluator c.loop-at.invariant.extends c.of_entry.ensures.extends;
 }
 
 pub returns-then-not-is_yes-2 : goal.returns-then-not-is_yes-2
@@ -53,7 +52,7 @@ returns-then-not-is_yes-2 c = end_fault c.args.tester.now.sig.now c.args.entries
     c.at_end-end.ensures c.args.trees.now (λ e. let h = c.is_yes-2.ensures.1 e in let k = c.if-not-is_yes-2.true in cc)
 
 pub judge_trees-requires-clause-pools : goal.judge_trees-requires-clause-pools
-judge_trees-requires-clause-pools c = pools_stay c.args.tester.now.sig.now c.args.bank.now c.loop-at.bank c.args.tester.now.pools.now c.loop-at.invariant.grows c.requires.pools
+judge_trees-requires-clause-pools c = ready_stays c.args.tester.now.sig.now c.args.evaluator.now c.loop-at.evaluator c.args.tester.now.pools.now c.loop-at.invariant.extends c.requires.pools
 
 pub judge_trees-requires-clause-spreads : goal.judge_trees-requires-clause-spreads
 judge_trees-requires-clause-spreads c = subst (Each (IsTestable c.args.tester.now.sig.now)) (sym c.as_slice-spreads.ensures) (walked_terms c.args.tester.now.sig.now c.args.entries.now c.loop-at.at (sight c.loop-at.seen) c.loop-at.invariant.walked).0

@@ -1,16 +1,16 @@
 use Rattle.std.proofs.Common.{◌≡◌, ◌+◌, length, subst, arith}
-use Rattle.law_ids.proofs.Reading.{grows_not, grows_on, each_at}
-use Rattle.law_draws.specs.Draws.{pools_by}
+use Rattle.law_pool.proofs.Reading.{each_at}
+use Rattle.law_gen.specs.Draws.{pools_by}
+use Rattle.law_testing.proofs.EvaluatorFacts.{extends_not, extends_on, ready_stays}
 use Rattle.law_valid.specs.declared.rule.Answer.TheVariants.{No}
 use Rattle.law_valid.specs.declared.rule.Rule.TheVariants.{V8}
-use Rattle.law_testing.proofs.Testing.{pools_stay}
 use Rattle.law_checking.specs.Planted.{HaveKids, JudgesTree, JudgesTrees}
 use Rattle.law_checking.specs.Parts.{IsYes}
 use Rattle.law_checking.proofs.Forested.{from_first, as_long, named_at, not_next, tree_fails, tree_passes, all_judged, one_missing}
 use Rattle.law_forest.proofs.forest.judge_trees.Goals as goal
 
 pub loop-at-init : goal.loop-at-init
-loop-at-init c = record { grows = grows_not c.args.bank.now; claim = from_first c.args.tester.now.sig.now c.args.spreads.now c.args.lives.now c.args.trees.now c.args.entry }
+loop-at-init c = record { extends = extends_not c.args.evaluator.now; claim = from_first c.args.tester.now.sig.now c.args.spreads.now c.args.lives.now c.args.trees.now c.args.entry }
 
 pub sort_at-sort-requires : goal.sort_at-sort-requires
 sort_at-sort-requires c = as_long c.args.tester.now.sig.now c.args.trees.now c.args.sorts.now c.loop-at.at c.requires.sorts c.loop-at-test.true
@@ -25,7 +25,7 @@ returns-then-not-is_next-clause-answer c =
     (λ next. let h = c.is_next.ensures.1 next in let k = c.if-not-is_next.true in cc)
 
 pub judge_tree-requires-clause-pools : goal.judge_tree-requires-clause-pools
-judge_tree-requires-clause-pools c = pools_stay c.args.tester.now.sig.now c.args.bank.now c.loop-at.bank c.args.tester.now.pools.now c.loop-at.invariant.grows c.requires.pools
+judge_tree-requires-clause-pools c = ready_stays c.args.tester.now.sig.now c.args.evaluator.now c.loop-at.evaluator c.args.tester.now.pools.now c.loop-at.invariant.extends c.requires.pools
 
 pub returns-then-not-is_yes-clause-answer : goal.returns-then-not-is_yes-clause-answer
 returns-then-not-is_yes-clause-answer c =
@@ -39,7 +39,7 @@ returns-then-not-is_yes-clause-answer c =
 
 pub loop-at-preserved : goal.loop-at-preserved
 loop-at-preserved c = record {
-  grows = grows_on c.args.bank.now c.loop-at.bank c.judge_tree.new.bank c.loop-at.invariant.grows c.judge_tree.ensures.grows;
+  extends = extends_on c.args.evaluator.now c.loop-at.evaluator c.judge_tree.new.evaluator c.loop-at.invariant.extends c.judge_tree.ensures.extends;
   claim = tree_passes c.args.tester.now.sig.now c.args.spreads.now c.args.lives.now c.args.trees.now c.args.entry c.loop-at.at c.loop-at.from c.index-trees-at.result c.sort_at-sort.result c.loop-at.invariant.claim c.loop-at-test.true c.index-trees-at.is
       (named_at c.args.tester.now.sig.now c.args.trees.now c.args.sorts.now c.loop-at.at c.index-trees-at.result c.sort_at-sort.result c.requires.sorts c.loop-at-test.true c.index-trees-at.is c.sort_at-sort.ensures)
       c.in_ok-found.found (each_at HaveKids c.args.trees.now c.loop-at.at c.index-trees-at.result c.requires.kids c.loop-at-test.true c.index-trees-at.is)

@@ -1,7 +1,7 @@
 use Rattle.std.proofs.Common.{length}
 use Rattle.law_sig.specs.Lists.{Each}
-use Rattle.law_ids.specs.Values.{Grows}
-use Rattle.law_draws.specs.Draws.{pools_by}
+use Rattle.law_testing.specs.Evaluators.{Extends}
+use Rattle.law_gen.specs.Draws.{pools_by}
 use Rattle.law_valid.specs.Trees.{IsTest}
 use Rattle.law_valid.specs.declared.rule.Answer.{Answer}
 use Rattle.law_valid.specs.Judged.{CutsTell}
@@ -15,7 +15,7 @@ decreases-loop-line l = length l.left
 
 abbrev pub invariant-loop-line : goal.invariant-loop-line
 invariant-loop-line l = record {
-  grows : Grows l.initial.bank l.bank;
+  extends : Extends l.initial.evaluator l.evaluator;
   tests : Each (IsTest l.self.tester.sig.now (pools_by l.self.tester.sig.now)) (parts_of Tests l.left);
   from : (a : Answer) → CutsTell l.self.tester.sig.now (pools_by l.self.tester.sig.now) l.entry (judgings l.self.spreads.now l.self.lives.now l.left) IsYes a
       → CutsTell l.self.tester.sig.now (pools_by l.self.tester.sig.now) l.entry (judgings l.self.spreads.now l.self.lives.now l.lines) IsYes a;

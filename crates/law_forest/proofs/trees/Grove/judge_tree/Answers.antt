@@ -13,12 +13,12 @@ pub returns-then-not-are_tests-clause-answer : goal.returns-then-not-are_tests-c
 returns-then-not-are_tests-clause-answer c =
     tree_untested c.args.self.now.tester.sig.now (pools_by c.args.self.now.tester.sig.now) c.args.self.now.spreads.now c.args.self.now.lives.now c.args.entry c.args.sort c.args.lines.now
     (c.in_ok-has_schemas.ensures.0 c.if-not-branch.false) (c.in_ok-has_terms.ensures.0 c.if-not-branch-2.false)
-    (λ all. let h = (c.are_tests.ensures c.args.bank.now c.requires.pools).1 (subst (Each (IsTest c.args.self.now.tester.sig.now (pools_by c.args.self.now.tester.sig.now))) (sym (c.as_slice.ensures ∙ c.in_ok-tests.ensures)) all) in
+    (λ all. let h = (c.are_tests.ensures c.args.evaluator.now.bank c.requires.pools.pools).1 (subst (Each (IsTest c.args.self.now.tester.sig.now (pools_by c.args.self.now.tester.sig.now))) (sym (c.as_slice.ensures ∙ c.in_ok-tests.ensures)) all) in
     let k = c.if-not-are_tests.true in cc)
 
 pub judge_splits-requires-clause-tests : goal.judge_splits-requires-clause-tests
 judge_splits-requires-clause-tests c =
-    subst (Each (IsTest c.args.self.now.tester.sig.now (pools_by c.args.self.now.tester.sig.now))) (c.as_slice.ensures ∙ c.in_ok-tests.ensures) ((c.are_tests.ensures c.args.bank.now c.requires.pools).0 c.if-not-are_tests.false)
+    subst (Each (IsTest c.args.self.now.tester.sig.now (pools_by c.args.self.now.tester.sig.now))) (c.as_slice.ensures ∙ c.in_ok-tests.ensures) ((c.are_tests.ensures c.args.evaluator.now.bank c.requires.pools.pools).0 c.if-not-are_tests.false)
 
 pub returns-clause-answer : goal.returns-clause-answer
 returns-clause-answer c =
@@ -26,5 +26,5 @@ returns-clause-answer c =
     (JudgesTree c.args.self.now.tester.sig.now (pools_by c.args.self.now.tester.sig.now) c.args.self.now.spreads.now c.args.self.now.lives.now c.args.entry c.args.sort c.args.lines.now IsYes) c.judge_splits.result
     (tree_told c.args.self.now.tester.sig.now (pools_by c.args.self.now.tester.sig.now) c.args.self.now.spreads.now c.args.self.now.lives.now c.args.entry c.args.sort c.args.lines.now
     (c.in_ok-has_schemas.ensures.0 c.if-not-branch.false) (c.in_ok-has_terms.ensures.0 c.if-not-branch-2.false)
-    (subst (Each (IsTest c.args.self.now.tester.sig.now (pools_by c.args.self.now.tester.sig.now))) (c.as_slice.ensures ∙ c.in_ok-tests.ensures) ((c.are_tests.ensures c.args.bank.now c.requires.pools).0 c.if-not-are_tests.false)))
+    (subst (Each (IsTest c.args.self.now.tester.sig.now (pools_by c.args.self.now.tester.sig.now))) (c.as_slice.ensures ∙ c.in_ok-tests.ensures) ((c.are_tests.ensures c.args.evaluator.now.bank c.requires.pools.pools).0 c.if-not-are_tests.false)))
     c.judge_splits.ensures.answer

@@ -6,7 +6,8 @@ use Rattle.law_ids.proofs.ResultFacts.{passed}
 use Rattle.law_testing.specs.Values.{IsValue}
 use Rattle.law_test.specs.Memo.{Gives}
 use Rattle.law_testing.proofs.Testing.{args_testable, value_missing, values_all, HasValues}
-use Rattle.law_test.proofs.Evaluating.{extends_on, ready_stays, few_here, row_next, taken_long, if_ok, given_value, given_none}
+use Rattle.law_test.proofs.Evaluating.{few_here, row_next, taken_long, if_ok, given_value, given_none}
+use Rattle.law_testing.proofs.EvaluatorFacts.{extends_on, ready_stays}
 use Rattle.law_test.proofs.evaluator.Evaluator.+value.Goals as goal
 
 pub value-requires : goal.value-requires

@@ -1,6 +1,6 @@
 use Rattle.std.proofs.Common.{◌≡◌, length, take}
 use Rattle.law_testing.specs.Values.{IsValue, Both}
-use Rattle.law_test.specs.Memo.{Extends}
+use Rattle.law_testing.specs.Evaluators.{Extends}
 use Rattle.law_test.proofs.evaluator.Evaluator.+value.Given as goal
 
 abbrev pub decreases-value : goal.decreases-value

@@ -1,7 +1,8 @@
 use Rattle.std.proofs.Common.{ap, subst, sym}
 use Rattle.law_sig.specs.declared.parts.Settings.{Settings}
 use Rattle.law_ids.specs.Values.{AreOf}
-use Rattle.law_test.specs.Memo.{Gives, Values}
+use Rattle.law_test.specs.Memo.{Gives}
+use Rattle.law_testing.specs.Evaluators.{Values}
 use Rattle.law_test.proofs.Evaluating.{right_stay, gives_made}
 use Rattle.law_test.proofs.evaluator.Evaluator.evaluated.Goals as goal
 

@@ -1,5 +1,6 @@
 use Rattle.std.proofs.Common.{subst}
-use Rattle.law_test.specs.Memo.{Gives, Values}
+use Rattle.law_test.specs.Memo.{Gives}
+use Rattle.law_testing.specs.Evaluators.{Values}
 use Rattle.law_test.proofs.Evaluating.{known_gives}
 use Rattle.law_test.proofs.evaluator.Evaluator.given.Goals as goal
 
