@@ -1,8 +1,8 @@
 ghost use Rattle.std.specs.Prelude.{◌≡◌, ◌<◌, IfOk};
-ghost use Rattle.law_gen.specs.Draws.{pools_by};
+ghost use Rattle.law_draws.specs.Draws.{pools_by};
 ghost use Rattle.law_valid.specs.declared.rule.Answer.TheVariants.{Yes};
 ghost use Rattle.law_valid.specs.Judged.{Tests, AtTests, Background};
-ghost use Rattle.law_test.specs.Values.{IsTestable, tests_by};
+ghost use Rattle.law_testing.specs.Values.{IsTestable, tests_by};
 ghost use Rattle.law_testing.specs.Evaluators.{AreReady, Extends};
 
 use law_forest::{is_yes, value};

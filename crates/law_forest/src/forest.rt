@@ -3,7 +3,7 @@ ghost use Rattle.law_sig.specs.Lists.{In, Each, AreDistinct};
 ghost use Rattle.law_sig.specs.declared.tree.Tree.{Tree};
 ghost use Rattle.law_cert_text.specs.declared.cert.SortTree.{SortTree};
 ghost use Rattle.law_named.specs.Named.{sort_named};
-ghost use Rattle.law_test.specs.Values.{IsTestable};
+ghost use Rattle.law_testing.specs.Values.{IsTestable};
 ghost use Rattle.law_testing.specs.Evaluators.{AreReady, Extends};
 ghost use Rattle.law_checking.specs.Planted.{IsOfSort, IsOutside, IsBelow, IsNextSort, HaveKids, JudgesTrees};
 

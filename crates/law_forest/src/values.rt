@@ -1,6 +1,6 @@
 ghost use Rattle.std.specs.Prelude.{◌≡◌, ◌<◌, ◌↔◌, None, IfOk, IsTrue, MatchOption};
 ghost use Rattle.law_valid.specs.declared.rule.Answer.TheVariants.{Yes};
-ghost use Rattle.law_test.specs.Values.{IsTestable, IsValue, tests_by, val_by};
+ghost use Rattle.law_testing.specs.Values.{IsTestable, IsValue, tests_by, val_by};
 ghost use Rattle.law_testing.specs.Evaluators.{AreReady, Extends};
 
 use law_eval::EvalErr;

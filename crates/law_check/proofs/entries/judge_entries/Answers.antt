@@ -2,7 +2,7 @@ use Rattle.std.proofs.Common.{◌+◌, ◌∙◌, [], None, length, map, refl, s
 use Rattle.std.proofs.lemmas.Option.{slice_get_read}
 use Rattle.law_sig.specs.Lists.{Each, AreDistinct}
 use Rattle.law_cert_text.specs.declared.cert.SortTree.{SortTree}
-use Rattle.law_test.specs.Values.{IsTestable}
+use Rattle.law_testing.specs.Values.{IsTestable}
 use Rattle.law_testing.proofs.EvaluatorFacts.{extends_not, extends_on, ready_stays}
 use Rattle.law_named.specs.Named.{sort_named, entry_named}
 use Rattle.law_check.specs.Seeing.{sight, HasSeen, IsPassed, IsAnswerTo, SeesMore}

@@ -1,6 +1,6 @@
 use Rattle.std.proofs.Common.{◌≡◌, ◌+◌, length, subst, arith}
-use Rattle.law_pool.proofs.Reading.{each_at}
-use Rattle.law_gen.specs.Draws.{pools_by}
+use Rattle.law_ids.proofs.Reading.{each_at}
+use Rattle.law_draws.specs.Draws.{pools_by}
 use Rattle.law_testing.proofs.EvaluatorFacts.{extends_not, extends_on, ready_stays}
 use Rattle.law_valid.specs.declared.rule.Answer.TheVariants.{No}
 use Rattle.law_valid.specs.declared.rule.Rule.TheVariants.{V8}
