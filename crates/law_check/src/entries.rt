@@ -193,7 +193,15 @@ fn of_entry(
         Entry::Lemma(own, q, steps) => of_lemma(tester, seen, number, *own, q, steps.as_slice()),
         Entry::Spread(schema) => Ok(of_spread(tester, seen, number, schema)),
         Entry::Killed(q, steps) => {
-            of_killed(tester, universe, evaluator, seen, number, q, steps.as_slice())
+            of_killed(
+                tester,
+                universe,
+                evaluator,
+                seen,
+                number,
+                q,
+                steps.as_slice(),
+            )
         }
         Entry::Live(term) => Ok(of_live(tester, seen, number, term)),
         Entry::Moved(q, steps) => of_moved(tester, evaluator, seen, number, q, steps.as_slice()),
