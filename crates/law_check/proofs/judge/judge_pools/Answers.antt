@@ -1,10 +1,19 @@
-use Rattle.std.proofs.Common.{◌∙◌, sym, subst}
+use Rattle.std.proofs.Common.{◌≡◌, List, ◌∙◌, refl, sym, subst}
 use Rattle.std.specs.List.{AllByRecursion}
 use Rattle.law_cert_text.specs.Certificates.{IsTree}
-use Rattle.law_testing.proofs.Testing.{pools_stay}
+use Rattle.law_sig.specs.declared.tree.Tree.{Tree}
+use Rattle.law_sig.specs.declared.parts.SigParts.{SigParts}
+use Rattle.law_ids.specs.Table.{PoolTable}
+use Rattle.law_testing.specs.Values.{ArePools}
+use Rattle.law_testing.specs.Evaluators.{Values, AreReady}
+use Rattle.law_testing.proofs.EvaluatorFacts.{ready_stays}
 use Rattle.law_checking.specs.Steps.{AnswersAll}
 use Rattle.law_checking.proofs.CertFacts.{pools_exact, other_pools, background_fault, all_answered}
 use Rattle.law_check.proofs.judge.judge_pools.Goals as goal
+
+-- an evaluator that has just been made
+ready_new : (parts : SigParts) (bank : List Tree) (values : Values) (table : PoolTable) → values ≡ record { parts = parts; bank = bank } → ArePools parts bank table → AreReady parts values table
+ready_new parts bank values table e pools = subst (λ v. AreReady parts v table) (sym e) (record { own = refl; pools = pools })
 
 pub returns-then-not-same : goal.returns-then-not-same
 returns-then-not-same c = other_pools c.args.sig.now c.args.cert.now c.in_ok-same.same c.in_ok-values.values
@@ -16,8 +25,12 @@ returns-then-not-is_yes c = background_fault c.args.sig.now c.args.cert.now ((po
     c.in_ok-names.ensures c.as_slice-written.ensures c.as_slice.ensures c.in_ok-same.ensures).0 c.if-not-same.false ∙ (c.in_ok-values.ensures ∙ c.requires.pools.are)) c.in_ok-answer.answer c.in_ok-answer.ensures.answer
     (λ e. let h = c.is_yes.ensures.1 e in let k = c.if-not-is_yes.true in cc)
 
+pub background-requires : goal.background-requires
+background-requires c = ready_new c.args.sig.now c.args.bank c.new-evaluator.result c.args.pools.now c.new-evaluator.ensures c.requires.pools
+
 pub judge_entries-requires-clause-pools : goal.judge_entries-requires-clause-pools
-judge_entries-requires-clause-pools c = pools_stay c.args.sig.now c.args.bank.now c.background.new.bank c.args.pools.now c.background.ensures.grows c.requires.pools
+judge_entries-requires-clause-pools c = ready_stays c.args.sig.now c.new-evaluator.result c.background.new.evaluator c.args.pools.now c.background.ensures.extends
+    (ready_new c.args.sig.now c.args.bank c.new-evaluator.result c.args.pools.now c.new-evaluator.ensures c.requires.pools)
 
 pub returns : goal.returns
 returns c = all_answered c.args.sig.now c.args.cert.now ((pools_exact c.args.sig.now c.args.cert.now c.in_ok-names.names c.as_slice-written.result.now c.as_slice.result.now c.in_ok-values.values c.in_ok-same.same

@@ -1,4 +1,4 @@
-use Rattle.std.proofs.Common.{◌-◌, ◌<◌}
+use Rattle.std.proofs.Common.{◌-◌}
 use Rattle.law_own.specs.Own.{IsOwn, vars_of}
 use Rattle.law_testing.specs.Evaluators.{Extends}
 use Rattle.law_check.proofs.OwnAgreeing.{PassesBelow}
