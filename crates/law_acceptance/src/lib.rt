@@ -8,6 +8,8 @@ mod check;
 #[cfg(test)]
 mod explore;
 #[cfg(test)]
+mod memos;
+#[cfg(test)]
 mod plain;
 #[cfg(test)]
 mod pools;
@@ -21,6 +23,8 @@ mod samples;
 mod signatures;
 #[cfg(test)]
 mod streams;
+#[cfg(test)]
+mod trees;
 #[cfg(test)]
 mod types;
 #[cfg(test)]

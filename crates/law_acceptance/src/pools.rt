@@ -1,5 +1,6 @@
 //! Pools of test values, given or from a seed, and the tests that they make.
-ghost use Rattle.law_pool.specs.Table.{IsFor};
+ghost use Rattle.std.specs.Prelude.{◌≡◌, ◌∷◌, [], length, IfOk};
+ghost use Rattle.law_ids.specs.Table.{HasShape, IsFor};
 
 use crate::samples::PLUS;
 use crate::types::signature;
@@ -7,7 +8,7 @@ use law_gen::make_pools;
 use law_pool::{Pools, given_pools};
 use law_sig::{NoMemory, PoolRule, Seq, Sig, SortId, SymId, Tree};
 use law_test::pools_of;
-use law_value::ValueBank;
+use law_value::{ValueBank, ValueId};
 use std::alloc::Global;
 
 /// One variable of the first sort, with two places, and two of the second, with three.
@@ -189,4 +190,53 @@ fn makes_constants(alloc: Global) -> bool {
 #[test]
 fn values_from_a_seed(rt: HostRuntime) {
     assert!(rt; makes_constants(rt.alloc()));
+}
+
+/// One pool by hand: two values of the first sort, and three of the second.
+fn by_hand(alloc: Global) -> Result<Seq<Seq<Seq<ValueId>>>, NoMemory>
+    ensures { IfOk result (λ made. HasShape (2 ∷ 3 ∷ []) made × (length made ≡ 1)) }
+{
+    let mut first = Seq::new(alloc);
+    first.push(ValueId(0))?;
+    first.push(ValueId(1))?;
+    let mut second = Seq::new(alloc);
+    second.push(ValueId(2))?;
+    second.push(ValueId(3))?;
+    second.push(ValueId(2))?;
+    let mut pool = Seq::new(alloc);
+    pool.push(first)?;
+    pool.push(second)?;
+    let mut pools = Seq::new(alloc);
+    pools.push(pool)?;
+    Ok(pools)
+}
+
+/// The number of tests of the pool by hand, what the second variable of the second sort is at test 7, and whether the tests 7
+/// and 8 are flat. `None` where the signature has other numbers of variables or other widths.
+fn of_hand(alloc: Global, sig: &Sig) -> Result<Option<(u64, ValueId, bool, bool)>, NoMemory> {
+    let Some(_) = sig.assignments() else {
+        return Ok(None);
+    };
+    let settings = sig.settings();
+    if settings.width.as_slice() != [2, 3].as_slice()
+        || settings.vars.as_slice() != [1, 2].as_slice()
+    {
+        return Ok(None);
+    }
+    let pools = Pools::build(alloc, sig, by_hand(alloc)?)?;
+    let value = pools.value_at(7, SortId(1), 1);
+    Ok(Some((pools.tests(), value, pools.is_flat(7), pools.is_flat(8))))
+}
+
+/// At test 7 the variables read the places 1, 0 and 1, and at test 8 the places 0, 1 and 1.
+fn is_of_hand(alloc: Global) -> bool {
+    match signature(alloc, PLACES) {
+        Some(sig) => of_hand(alloc, &sig) == Ok(Some((18, ValueId(3), false, true))),
+        None => false,
+    }
+}
+
+#[test]
+fn pools_by_hand(rt: HostRuntime) {
+    assert!(rt; is_of_hand(rt.alloc()));
 }

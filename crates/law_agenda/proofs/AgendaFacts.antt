@@ -19,13 +19,13 @@ use Rattle.law_agenda.specs.declared.stores.Store.{Store}
 use Rattle.law_agenda.specs.Candidates.{IsCandidate}
 use Rattle.law_agenda.specs.Stores.{IsStore, IsItem, IsFitting}
 use Rattle.law_agenda.specs.Agendas.{IsReady, IsStage, IsAt}
-use Rattle.law_agenda.proofs.Staging.{first_after, spent_after}
+use Rattle.law_listing.proofs.Staging.{first_after, spent_after}
 use Rattle.std.proofs.Math.Nat.{eq-or-lt_of_le}
 use Rattle.law_sig.specs.WellFormed.{IsWellFormed}
 use Rattle.law_laws.proofs.TreeFacts.{weight-Var, weight-App}
 use Rattle.law_laws.proofs.Descents.{weighs_something}
 use Rattle.law_sig.specs.Schemas.IsConsidered.{variable, application}
-use Rattle.law_agenda.specs.Stages.{kind, FromStage}
+use Rattle.law_listing.specs.Stages.{kind, FromStage}
 
 -- the first one is one alone
 pub first_one : (parts : SigParts) (P : Tree → Type 0) (done : List Tree) (x y : Tree) → IsFirstAbove (IsBefore parts) P done x → IsFirstAbove (IsBefore parts) P done y → x ≡ y

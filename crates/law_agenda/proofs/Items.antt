@@ -25,8 +25,8 @@ use Rattle.law_laws.proofs.Considering.{considered_more}
 use Rattle.law_laws.proofs.TreeFacts.{weight-Var}
 use Rattle.law_laws.proofs.Sorts.{var_sorted}
 use Rattle.law_agenda.proofs.Seeking.{here_of}
-use Rattle.law_agenda.proofs.Symbols.{considered_schema}
-use Rattle.law_agenda.proofs.RowFacts.{at_kept, at_end}
+use Rattle.law_listing.proofs.Applications.{considered_schema}
+use Rattle.law_listing.proofs.PickFacts.{at_kept, at_end}
 use Rattle.law_agenda.proofs.Storing.{past_end, longer, row_at, row_past}
 
 kept_in : (f : Spread → Bool) (xs : List Spread) (e : Spread) → In e (filter f xs) → In e xs

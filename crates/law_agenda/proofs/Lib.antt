@@ -1,8 +1,5 @@
-pub mod RowFacts
-pub mod Transfer
-pub mod Picking
-pub mod Staging
-pub mod Symbols
+pub mod Places
+pub mod Columns
 pub mod Seeking
 pub mod Storing
 pub mod Items

@@ -1,5 +1,6 @@
 -- The first and the next candidate of a symbol, and from a symbol on.
 use Rattle.std.proofs.Common.{◌≡◌, ℕ, suc, ◌-◌, ◌<◌, ◌≤◌, ◌⊎◌, inl, inr, false, true≢false, List, [], ◌∷◌, length, Option, Some, None, IsTrue, option_map, refl, sym, ap, ◌∙◌, subst, subst₂, arith}
+use Rattle.law_sig.specs.Lists.{In}
 use Rattle.law_sig.specs.Signature.{symbol_at, args_of, weight_at}
 use Rattle.law_sig.specs.Tests.{weight, is_explored}
 use Rattle.law_sig.specs.Order.{IsBefore}
@@ -10,7 +11,6 @@ use Rattle.law_sig.specs.declared.parts.Sym.{Sym}
 use Rattle.law_sig.specs.declared.parts.SigParts.{SigParts}
 use Rattle.law_laws.proofs.TreeFacts.{weight-App}
 use Rattle.law_laws.proofs.ListFacts.{of_each}
-use Rattle.law_laws.proofs.Descents.{weighs_something}
 use Rattle.law_laws.proofs.Universe.{listed_in}
 use Rattle.law_laws.proofs.BodyFacts.{some_is, none_is}
 use Rattle.law_sig.specs.declared.tree.SortId.{SortId}
@@ -20,34 +20,22 @@ use Rattle.law_sig.specs.Schemas.{IsConsidered}
 use Rattle.law_sig.specs.Schemas.IsConsidered.{variable, application}
 use Rattle.law_agenda.specs.declared.candidates.Candidate.{Candidate}
 use Rattle.law_agenda.specs.declared.candidates.Candidate.TheVariants as candidate
-use Rattle.law_agenda.specs.declared.rows.Pick.{Pick}
+use Rattle.law_listing.specs.declared.pick.Pick.{Pick}
 use Rattle.law_agenda.specs.declared.walks.Walk.{Walk}
-use Rattle.law_agenda.specs.Rows.{Lex, IsLower, IsRow}
-use Rattle.law_agenda.specs.Choices.{counts_of}
-use Rattle.law_agenda.specs.Shelves.{Shelf, lists_at, lists_for, sorts_of}
-use Rattle.law_agenda.specs.Stages.{kind_in, number_in, AtStage, FromStage, Here, Onward}
+use Rattle.law_listing.specs.Rows.{Lex}
+use Rattle.law_listing.specs.Picks.{IsLower, IsRow}
+use Rattle.law_listing.specs.Choices.{counts_of, IsTermOf}
+use Rattle.law_agenda.specs.Shelves.{Shelf, column, lists_at, lists_for, sorts_of}
+use Rattle.law_listing.specs.Stages.{kind_in, number_in, AtStage, FromStage, Here, Onward}
 use Rattle.law_agenda.specs.Walking.{IsWalk}
-use Rattle.law_agenda.specs.Candidates.{IsTermOf, IsApplication, IsStock, FirstOf, NextOf, FirstFrom}
-use Rattle.law_agenda.proofs.Transfer.{StandFor, spent_first, spent_next, first_first, next_next}
-use Rattle.law_agenda.proofs.Picking.{row_picks, at_place}
-use Rattle.law_agenda.proofs.Staging.{stage_split, stage_found, first_same}
-use Rattle.law_agenda.proofs.Symbols.{IsUsable, stands, applied_at, considered_schema}
+use Rattle.law_agenda.specs.Candidates.{IsApplication, IsStock, FirstOf, NextOf, FirstFrom}
+use Rattle.law_listing.proofs.Transfer.{StandFor, spent_first, spent_next, first_first, next_next}
+use Rattle.law_listing.proofs.Picking.{item_at, row_picks}
+use Rattle.law_listing.proofs.Staging.{stage_split, stage_found, first_same}
+use Rattle.law_listing.proofs.Applications.{IsApplied, usable, applied_at, considered_over, considered_schema, stands}
+use Rattle.law_agenda.proofs.Columns.{columns_are, lists_are}
 
 module _ (parts : SigParts) (spreads : List Tree) (shelf : Shelf) (w : ℕ) (stock : IsStock parts spreads shelf w) where
-  usable : (f : SymId) → f.0 < length parts.symbols → IsTrue (is_explored parts f) → weight_at parts f ≤ w → IsUsable parts spreads shelf stock.schemas stock.shelf_is w f
-  usable f within explored heavy =
-      let (symbol, is) = at_place parts.symbols f.0 within in
-      record {
-        explored = explored;
-        symbol = symbol;
-        declared = is;
-        sorts_declared = (stock.formed.symbols f symbol is).args_declared;
-        weighs = weighs_something parts stock.formed f;
-        heavy = heavy;
-        small = stock.small;
-        long = stock.long;
-      }
-
   abbrev Rows : SymId → List Pick → Type 0
   Rows f row = IsRow (counts_of (lists_at parts shelf f)) (w - weight_at parts f) row
 
@@ -55,19 +43,27 @@ module _ (parts : SigParts) (spreads : List Tree) (shelf : Shelf) (w : ℕ) (sto
   Terms f t = Here parts (IsConsidered parts spreads) w 1 f.0 t
 
   stand : (f : SymId) → f.0 < length parts.symbols → IsTrue (is_explored parts f) → weight_at parts f ≤ w → StandFor (Lex IsLower) (IsBefore parts) (Rows f) (Terms f) (IsTermOf (lists_at parts shelf f) f)
-  stand f within explored heavy = stands parts spreads shelf stock.schemas stock.shelf_is w f (usable f within explored heavy)
+  stand f within explored heavy =
+      let (symbol, is) = item_at parts.symbols f.0 within in
+      let long = stock.long in
+      subst (λ l. StandFor (Lex IsLower) (IsBefore parts) (IsRow (counts_of l) (w - weight_at parts f)) (Terms f) (IsTermOf l f)) (sym (lists_are parts shelf f symbol is))
+      (stands parts spreads (length shelf) (column shelf) stock.schemas (columns_are parts spreads shelf stock.schemas stock.shelf_is) w f symbol
+      (usable parts w f symbol stock.formed is explored heavy) (omega arith) stock.small)
+
+  applied : (f : SymId) (y : Tree) → Terms f y → IsApplied parts (λ c. In c spreads) w f y
+  applied f y is = applied_at parts (λ c. In c spreads) w f y (considered_over parts spreads y is.0) is.1
 
   -- none, where the symbol is too heavy or not explored
   pub none_too_heavy : (f : SymId) → w < weight_at parts f → IsSpent (IsBefore parts) (Terms f) []
   none_too_heavy f less y y_is above =
-      let a = applied_at parts spreads w f y y_is.0 y_is.1 in
+      let a = applied f y y_is in
       let e = weight-App parts f a.args in
       let d = a.weight_is in
       omega arith
 
   pub none_not_explored : (f : SymId) → is_explored parts f ≡ false → IsSpent (IsBefore parts) (Terms f) []
   none_not_explored f e y y_is above =
-      let a = applied_at parts spreads w f y y_is.0 y_is.1 in
+      let a = applied f y y_is in
       absurd (true≢false (sym a.explored ∙ e))
 
   application_of : (f : SymId) (walk : Walk) (t : Tree) → f.0 < length parts.symbols → IsTrue (is_explored parts f) → weight_at parts f ≤ w

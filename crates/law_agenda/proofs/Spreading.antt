@@ -1,5 +1,5 @@
 -- What an agenda knows after a spread schema.
-use Rattle.std.proofs.Common.{◌≡◌, ℕ, zero, suc, ◌-◌, ◌≤◌, ◌⊎◌, inl, inr, List, [], ◌∷◌, ◌++◌, true, take, drop, Option, Some, None, slice_get, slice_index_or, refl, sym, ap, ◌∙◌, subst, subst₂, append-nil, arith}
+use Rattle.std.proofs.Common.{◌≡◌, ℕ, zero, suc, ◌-◌, ◌≤◌, ◌⊎◌, inl, inr, List, [], ◌∷◌, ◌++◌, true, take, drop, Option, Some, None, slice_get, refl, sym, ap, ◌∙◌, subst, subst₂, append-nil, arith}
 use Rattle.std.specs.Option.{MatchOption}
 use Rattle.law_sig.specs.Lists.{In, Each, Rising}
 use Rattle.law_sig.specs.Trees.{schema_of}
@@ -21,28 +21,24 @@ use Rattle.law_agenda.specs.declared.agenda.Going.{Going}
 use Rattle.law_agenda.specs.declared.candidates.Candidate.{Candidate}
 use Rattle.law_agenda.specs.declared.candidates.Candidate.TheVariants as candidate
 use Rattle.law_agenda.specs.declared.instances.Instance.{Instance}
-use Rattle.law_agenda.specs.declared.rows.Pick.{Pick}
+use Rattle.law_listing.specs.declared.pick.Pick.{Pick}
 use Rattle.law_agenda.specs.declared.shelves.Spread.{Spread}
 use Rattle.law_agenda.specs.declared.stores.Store.{Store}
 use Rattle.law_agenda.specs.Candidates.{IsCandidate, NextOf}
-use Rattle.law_agenda.specs.Choices.{Picked}
+use Rattle.law_listing.specs.Choices.{Picked}
 use Rattle.law_agenda.specs.Instances.{range_of, ranges_of, IsRange, AreRanges, IsOpenVar, IsOpened, FirstInstance}
 use Rattle.law_valid.specs.Order.{Progress, after_spread, IsSchemaNext, AreSpent}
-use Rattle.law_agenda.specs.Shelves.{Shelf, bucket, column, lists_for, schemas_in, sorts_of}
+use Rattle.law_agenda.specs.Shelves.{Shelf, bucket, lists_for, schemas_in, sorts_of}
 use Rattle.law_agenda.specs.Stores.{IsStore, IsItem, IsClosed, Closes}
 use Rattle.law_agenda.specs.Agendas.{IsReady, IsGoing, IsStage, IsAt, IsFinished, Begins, AreKept, AreRanged}
-use Rattle.law_agenda.proofs.Picking.{in_place}
+use Rattle.law_listing.proofs.Rising.{at_place}
+use Rattle.law_agenda.proofs.Columns.{column_at}
 use Rattle.law_agenda.proofs.Seeking.{some_case}
-use Rattle.law_agenda.proofs.Staging.{first_after, spent_after}
+use Rattle.law_listing.proofs.Staging.{first_after, spent_after}
 use Rattle.law_agenda.proofs.Items.{candidate_weight, considered_sort}
 use Rattle.law_agenda.proofs.AgendaFacts.{first_one, fitting_of}
 
 -- The ranges of what a row picks
-
-column_at : (shelf : Shelf) (sort : SortId) (k : ℕ) → slice_index_or (column shelf sort) k [] ≡ schemas_in (bucket shelf k sort)
-column_at [] sort k = refl
-column_at (x ∷ shelf) sort zero = refl
-column_at (x ∷ shelf) sort (suc k) = column_at shelf sort k
 
 spread_at : (xs : List Spread) (n : ℕ) (c : Tree) → slice_get (schemas_in xs) n ≡ Some c → (e : Spread) × (slice_get xs n ≡ Some e) × (e.schema ≡ c)
 spread_at [] n c e = none_is c e
@@ -58,7 +54,7 @@ picked_ranges parts lives store (s ∷ ss) [] cs ranged h = absurd h
 picked_ranges parts lives store (s ∷ ss) (p ∷ row) [] ranged h = absurd h
 picked_ranges parts lives store (s ∷ ss) (p ∷ row) (c ∷ cs) ranged h =
     let (e, at, same) = spread_at (bucket store.shelf p.weight s) p.at c (subst (λ l. slice_get l p.at ≡ Some c) (column_at store.shelf s p.weight) h.0) in (
-      subst₂ (λ d o. IsRange parts lives d (range_of o)) same (sym at) (ranged e (inr (record { own = p.weight; sort = s; at = in_place (bucket store.shelf p.weight s) p.at e at }))),
+      subst₂ (λ d o. IsRange parts lives d (range_of o)) same (sym at) (ranged e (inr (record { own = p.weight; sort = s; at = at_place e (bucket store.shelf p.weight s) p.at at }))),
       picked_ranges parts lives store ss row cs ranged h.1,
     )
 

@@ -24,12 +24,12 @@ use Rattle.law_agenda.specs.declared.shelves.Spread.{Spread}
 use Rattle.law_agenda.specs.declared.stores.Store.{Store}
 use Rattle.law_agenda.specs.declared.candidates.Candidate.{Candidate}
 use Rattle.law_agenda.specs.Shelves.{Shelf, bucket, schemas_in, gives_sort, heads_sort, is_of_sort, sorted_out}
-use Rattle.law_agenda.specs.Stages.{kind, number, kind_in, number_in, AtStage, FromStage, Here, Onward}
+use Rattle.law_listing.specs.Stages.{kind, number, kind_in, number_in, AtStage, FromStage, Here, Onward}
 use Rattle.law_agenda.specs.Candidates.{FirstOf, NextOf, FirstFrom}
 use Rattle.law_agenda.specs.Stores.{IsStore, IsFirstVar}
-use Rattle.law_agenda.proofs.RowFacts.{at_kept, at_end}
-use Rattle.law_agenda.proofs.Staging.{stage_split, stage_below, schemas_before, first_same, spent_same, next_here, next_later, next_never}
-use Rattle.law_agenda.proofs.Symbols.{considered_schema}
+use Rattle.law_listing.proofs.PickFacts.{at_kept, at_end}
+use Rattle.law_listing.proofs.Staging.{stage_split, stage_below, schemas_before, first_same, spent_same, next_here, next_later, next_never}
+use Rattle.law_listing.proofs.Applications.{considered_schema}
 
 -- Lists
 

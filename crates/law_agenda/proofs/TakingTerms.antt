@@ -29,14 +29,14 @@ use Rattle.law_agenda.specs.declared.shelves.Spread.{Spread}
 use Rattle.law_agenda.specs.declared.stores.Store.{Store}
 use Rattle.law_agenda.specs.declared.stores.Found.{Found}
 use Rattle.law_agenda.specs.Agendas.{IsReady, IsGoing, IsAt, IsFinished, Continues, AreKept, AreRanged}
-use Rattle.law_agenda.specs.Candidates.{IsCandidate, IsTermOf, NextOf}
-use Rattle.law_agenda.specs.Choices.{counts_of}
+use Rattle.law_agenda.specs.Candidates.{IsCandidate, NextOf}
+use Rattle.law_listing.specs.Choices.{counts_of, IsTermOf}
 use Rattle.law_agenda.specs.Instances.{piece, pieces, IsRange, AreRanges, IsInstanceOf, IsHeld, NextInstance}
 use Rattle.law_agenda.specs.Stores.{IsStore, IsItem, IsFitting, IsClosed, Closes}
 use Rattle.law_agenda.specs.Walking.{IsWalk}
 use Rattle.law_agenda.proofs.AgendaFacts.{term_one}
 use Rattle.law_agenda.proofs.Storing.{longer}
-use Rattle.law_agenda.proofs.Staging.{first_after, spent_after}
+use Rattle.law_listing.proofs.Staging.{first_after, spent_after}
 
 -- Ranges
 

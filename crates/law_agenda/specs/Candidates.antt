@@ -7,22 +7,17 @@ use Rattle.law_sig.specs.Order.{IsBefore}
 use Rattle.law_sig.specs.WellFormed.{IsWellFormed}
 use Rattle.law_sig.specs.declared.tree.SymId.{SymId}
 use Rattle.law_sig.specs.declared.tree.Tree.{Tree}
-use Rattle.law_sig.specs.declared.tree.Tree.TheVariants.{Var, App}
+use Rattle.law_sig.specs.declared.tree.Tree.TheVariants.{Var}
 use Rattle.law_sig.specs.declared.parts.SigParts.{SigParts}
 use Rattle.law_sig.specs.Expected.{IsFirstAbove, IsSpent}
 use Rattle.law_sig.specs.Schemas.{IsConsidered}
-use Rattle.law_agenda.specs.declared.rows.Pick.{Pick}
 use Rattle.law_agenda.specs.declared.candidates.Candidate.{Candidate}
 use Rattle.law_agenda.specs.declared.candidates.Candidate.TheVariants as candidate
 use Rattle.law_agenda.specs.declared.walks.Walk.{Walk}
-use Rattle.law_agenda.specs.Choices.{Lists, counts_of, Picked}
+use Rattle.law_listing.specs.Choices.{counts_of, IsTermOf}
 use Rattle.law_agenda.specs.Shelves.{Shelf, lists_at, IsShelf, AreSchemas}
-use Rattle.law_agenda.specs.Stages.{Onward, FromStage}
+use Rattle.law_listing.specs.Stages.{Onward, FromStage}
 use Rattle.law_agenda.specs.Walking.{IsWalk}
-
--- an application of a symbol to what a row picks
-abbrev pub IsTermOf : Lists → SymId → List Pick → Tree → Type 0
-IsTermOf lists f row t = (args : List Tree) × Picked lists row args × (t ≡ App f args)
 
 -- an application of this weight, at a row from the shelf
 pub record IsApplication (parts : SigParts) (shelf : Shelf) (w : ℕ) (f : SymId) (walk : Walk) (t : Tree) : Type 0 where

@@ -18,11 +18,10 @@ use Rattle.law_agenda.specs.declared.candidates.Candidate.TheVariants as candida
 use Rattle.law_agenda.specs.declared.instances.Range.{Range}
 use Rattle.law_agenda.specs.declared.instances.Instance.{Instance}
 use Rattle.law_agenda.specs.declared.instances.Instance.TheVariants as instance
-use Rattle.law_agenda.specs.declared.rows.Pick.{Pick}
+use Rattle.law_listing.specs.declared.pick.Pick.{Pick}
 use Rattle.law_agenda.specs.declared.shelves.Spread.{Spread}
-use Rattle.law_agenda.specs.Choices.{Lists, counts_of}
+use Rattle.law_listing.specs.Choices.{counts_of, IsTermOf}
 use Rattle.law_agenda.specs.Shelves.{Shelf, bucket, sorts_of}
-use Rattle.law_agenda.specs.Candidates.{IsTermOf}
 use Rattle.law_agenda.specs.Walking.{IsWalk}
 
 -- so many live terms from a place on
@@ -30,8 +29,8 @@ abbrev pub piece : List Tree → Range → List Tree
 piece lives r = take (r.to - r.from) (drop r.from lives)
 
 -- they are all of one weight
-abbrev pub pieces : List Tree → List Range → Lists
-pieces lives ranges = map (λ (r : Range). piece lives r ∷ []) ranges
+abbrev pub pieces : List Tree → List Range → List (List (List Tree))
+pieces lives ranges = map (λ l. l ∷ []) (map (piece lives) ranges)
 
 -- the ranges of what a row picks from a shelf
 abbrev pub range_of : Option Spread → Range

@@ -1,7 +1,4 @@
-pub mod Rows
 pub mod Walking
-pub mod Choices
-pub mod Stages
 pub mod Shelves
 pub mod Candidates
 pub mod Stores

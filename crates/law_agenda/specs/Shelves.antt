@@ -15,7 +15,6 @@ use Rattle.law_sig.specs.declared.tree.Tree.TheViews.{out-Tree}
 use Rattle.law_sig.specs.declared.parts.Sym.{Sym}
 use Rattle.law_sig.specs.declared.parts.SigParts.{SigParts}
 use Rattle.law_agenda.specs.declared.shelves.Spread.{Spread}
-use Rattle.law_agenda.specs.Choices.{Lists}
 
 -- by weight, and then by the number of the sort
 abbrev pub Shelf : Type 0
@@ -31,7 +30,7 @@ schemas_in spreads = map (λ (spread : Spread). spread.schema) spreads
 abbrev pub column : Shelf → SortId → List (List Tree)
 column shelf sort = map (λ (level : List (List Spread)). schemas_in (slice_index_or level sort.0 [])) shelf
 
-abbrev pub lists_for : Shelf → List SortId → Lists
+abbrev pub lists_for : Shelf → List SortId → List (List (List Tree))
 lists_for shelf sorts = map (column shelf) sorts
 
 -- the sorts of a symbol's arguments
@@ -39,7 +38,7 @@ abbrev pub sorts_of : Option Sym → List SortId
 sorts_of None = []
 sorts_of (Some symbol) = args_of symbol
 
-abbrev pub lists_at : SigParts → Shelf → SymId → Lists
+abbrev pub lists_at : SigParts → Shelf → SymId → List (List (List Tree))
 lists_at parts shelf f = lists_for shelf (sorts_of (symbol_at parts f))
 
 -- whether a term's head has a sort

@@ -5,7 +5,7 @@ ghost use Rattle.law_sig.specs.declared.tree.Tree.{Tree};
 ghost use Rattle.law_sig.specs.Schemas.{IsConsidered};
 ghost use Rattle.law_agenda.specs.declared.candidates.Candidate.TheVariants as candidate;
 ghost use Rattle.law_agenda.specs.Candidates.{IsApplication, IsStock, FirstOf, NextOf, FirstFrom};
-ghost use Rattle.law_agenda.specs.Stages.{Here};
+ghost use Rattle.law_listing.specs.Stages.{Here};
 ghost use Rattle.law_sig.specs.declared.parts.SigParts.{SigParts};
 ghost use Rattle.law_agenda.specs.Shelves.{Shelf};
 

@@ -4,14 +4,14 @@ ghost use Rattle.law_sig.specs.Schemas.{IsConsidered};
 ghost use Rattle.law_agenda.specs.declared.shelves.Spread.{Spread};
 ghost use Rattle.law_agenda.specs.Stores.{IsClosed, IsStore, IsFitting, IsItem};
 ghost use Rattle.law_agenda.specs.Candidates.{IsCandidate, NextOf};
-ghost use Rattle.law_agenda.specs.Choices.{Picked};
+ghost use Rattle.law_listing.specs.Choices.{Picked};
 ghost use Rattle.law_agenda.specs.Shelves.{column, lists_for, schemas_in};
 
 use super::candidates::Candidate;
-use super::rows::Pick;
 use super::shelves::Spread;
 use super::stores::{Found, Store, next_schema};
 use super::universe::Universe;
+use law_listing::Pick;
 use law_sig::{NoMemory, Seq, Sig, SortId, Tree};
 use std::alloc::Global;
 
@@ -26,7 +26,7 @@ fn is_at(spreads: &[Spread], at: usize, term: &Tree) -> bool
     term.is_same(&spreads[at].schema)
 }
 
-#[tactic(auto, using(crate::proofs::Picking::present, crate::proofs::Picking::missing, crate::proofs::Items::nothing_at))]
+#[tactic(auto, using(crate::proofs::Places::present, crate::proofs::Places::missing, crate::proofs::Items::nothing_at))]
 /// Whether the schema at a place among those of a sort is this one.
 fn is_in(level: &Seq<Seq<Spread>>, sort: SortId, at: usize, term: &Tree) -> bool
     ensures { (c : Tree) → slice_get (schemas_in (slice_index_or level.now sort.0 [])) at ≡ Some c → IsTrue result ↔ (term.now ≡ c) }

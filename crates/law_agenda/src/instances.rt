@@ -1,16 +1,16 @@
 ghost use Rattle.std.specs.Prelude.{◌≡◌, ◌↔◌, ◌++◌, IfOk, OnOk, IsTrue, List, [], ◌<◌, length, slice_get, slice_index_or};
 ghost use Rattle.law_sig.specs.declared.tree.Tree.{Tree};
 ghost use Rattle.law_agenda.specs.Shelves.{bucket, sorts_of};
-ghost use Rattle.law_agenda.specs.Choices.{Picked};
+ghost use Rattle.law_listing.specs.Choices.{Picked};
 ghost use Rattle.law_agenda.specs.Instances.{range_of, ranges_of, range_counts, pieces, IsInstanceOf, IsOpen, IsOpened, IsHeld, FirstInstance, NextInstance};
 ghost use Rattle.law_sig.specs.Signature.{symbol_at};
 ghost use Rattle.law_sig.specs.declared.parts.SigParts.{SigParts};
 ghost use Rattle.law_sig.specs.declared.tree.Tree.TheVariants.{App};
 
 use super::candidates::{Candidate, vars_at};
-use super::rows::Pick;
 use super::shelves::Spread;
 use super::walks::Walk;
+use law_listing::Pick;
 use law_sig::{NoMemory, Seq, Sig, SortId, SymId, Tree};
 use std::alloc::Global;
 
@@ -28,7 +28,7 @@ pub enum Instance {
     App(SymId, Seq<Range>, Walk),
 }
 
-#[tactic(auto, using(crate::proofs::Picking::present, crate::proofs::Picking::missing))]
+#[tactic(auto, using(crate::proofs::Places::present, crate::proofs::Places::missing))]
 /// The range of the spread schema at a place among those of a sort.
 fn range_in(level: &Seq<Seq<Spread>>, sort: SortId, at: usize) -> Range
     ensures { result ≡ range_of (slice_get (slice_index_or level.now sort.0 []) at) }
@@ -45,7 +45,7 @@ fn range_in(level: &Seq<Seq<Spread>>, sort: SortId, at: usize) -> Range
     }
 }
 
-#[tactic(auto, using(crate::proofs::Picking::present, crate::proofs::Picking::missing))]
+#[tactic(auto, using(crate::proofs::Places::present, crate::proofs::Places::missing))]
 /// The range of the spread schema that is picked.
 fn range_at(shelf: &[Seq<Seq<Spread>>], sort: SortId, pick: &Pick) -> Range
     ensures { result ≡ range_of (slice_get (bucket shelf.now pick.now.weight sort) pick.now.at) }

@@ -1,17 +1,12 @@
 ghost use Rattle.std.specs.Prelude.{◌≡◌, ℕ, ◌≢◌, ◌∷◌, ◌+◌, ◌<◌, ◌^◌, [], slice_index_or, true, false, IfOk};
 ghost use Rattle.std.specs.Option.{MatchOption};
 ghost use Rattle.law_sig.specs.Expected.{IsFirstAbove, IsSpent};
-ghost use Rattle.law_agenda.specs.Rows.{Lex, IsLower, IsRow, IsRowFrom, AreFits, AreAllFits, NoSum};
+ghost use Rattle.law_listing.specs.Rows.{Lex};
+ghost use Rattle.law_listing.specs.Picks.{IsLower, IsRow, IsRowFrom, AreFits, AreAllFits, NoSum};
 
+use law_listing::Pick;
 use law_sig::{NoMemory, Seq};
 use std::alloc::Global;
-
-/// What stands at a place of a row: how much it weighs, and which one of this weight it is, from 0.
-#[derive(Clone, Copy, Debug, PartialEq, Eq)]
-pub struct Pick {
-    pub weight: usize,
-    pub at: usize,
-}
 
 /// How many choices there are of a weight.
 fn count_at(counts: &[usize], weight: usize) -> usize
@@ -184,7 +179,7 @@ fn nothing(alloc: Global, weight: usize) -> Result<Seq<bool>, NoMemory>
     Ok(found)
 }
 
-#[tactic(auto, using(crate::proofs::RowFacts::more_fits, crate::proofs::RowFacts::no_fits))]
+#[tactic(auto, using(law_listing::proofs::PickFacts::more_fits, law_listing::proofs::PickFacts::no_fits))]
 /// For each number of last places, which weights up to this one their rows may have.
 pub fn fits_of(
     alloc: Global,

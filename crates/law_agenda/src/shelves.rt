@@ -2,7 +2,7 @@ ghost use Rattle.std.specs.Prelude.{◌≡◌, [], length, map, slice_index_or, 
 ghost use Rattle.std.specs.List.{filter};
 ghost use Rattle.law_sig.specs.Signature.{symbol_at};
 ghost use Rattle.law_sig.specs.declared.tree.Tree.TheViews.{out-Tree};
-ghost use Rattle.law_agenda.specs.Choices.{counts_of};
+ghost use Rattle.law_listing.specs.Choices.{counts_of};
 ghost use Rattle.law_agenda.specs.Shelves.{column, lists_for, heads_sort, gives_sort, is_of_sort, sorted_out, schemas_in};
 
 use law_sig::{NoMemory, Seq, Sig, SortId, Sym, SymId, Tree};
@@ -29,7 +29,7 @@ impl Spread {
     }
 }
 
-#[tactic(auto, using(crate::proofs::Picking::missing))]
+#[tactic(auto, using(crate::proofs::Places::missing))]
 /// How many of these are of a sort.
 fn size_at(level: &Seq<Seq<Spread>>, sort: SortId) -> usize
     ensures { result ≡ length (schemas_in (slice_index_or level.now sort.0 [])) }

@@ -3,7 +3,7 @@ ghost use Rattle.law_sig.specs.declared.tree.Tree.{Tree};
 ghost use Rattle.law_sig.specs.Schemas.{IsConsidered};
 ghost use Rattle.law_agenda.specs.Candidates.{IsCandidate, FirstOf, NextOf};
 ghost use Rattle.law_agenda.specs.Shelves.{sorted_out};
-ghost use Rattle.law_agenda.specs.Stages.{Onward};
+ghost use Rattle.law_listing.specs.Stages.{Onward};
 ghost use Rattle.law_agenda.specs.Stores.{IsStore, FirstVar, IsFitting, HasNoOther};
 
 use super::candidates::{Candidate, first_from_symbol, next_of_symbol, vars_at};

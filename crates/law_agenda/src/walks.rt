@@ -1,10 +1,12 @@
 ghost use Rattle.std.specs.Prelude.{◌≡◌, ◌∷◌, ◌<◌, [], IfOk};
 ghost use Rattle.std.specs.Option.{MatchOption};
 ghost use Rattle.law_sig.specs.Expected.{IsFirstAbove, IsSpent};
-ghost use Rattle.law_agenda.specs.Rows.{Lex, IsLower, IsRow};
+ghost use Rattle.law_listing.specs.Rows.{Lex};
+ghost use Rattle.law_listing.specs.Picks.{IsLower, IsRow};
 ghost use Rattle.law_agenda.specs.Walking.{IsWalk};
 
-use super::rows::{Pick, first_from, fits_of, next_row};
+use super::rows::{first_from, fits_of, next_row};
+use law_listing::Pick;
 use law_sig::{NoMemory, Seq};
 use std::alloc::Global;
 

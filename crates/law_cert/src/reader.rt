@@ -6,6 +6,7 @@ ghost use Rattle.law_cert_text.specs.Readers.{IsClosedTo, IsFed, IsOpen, IsReadA
 use crate::phase::Phase;
 use law_cert_text::{Cert, CertErr};
 use law_sig::Text;
+use memchr::memchr;
 use std::alloc::Global;
 use std::marker::Model;
 use std::mem;
@@ -51,21 +52,23 @@ impl CertReader {
         ensures ok { MatchResult result (λ _. IsFed self.old self.new piece.now) (IsStopped self.old self.new piece.now) }
     {
         self.answer()?;
-        for byte in piece {
-            self.take(*byte)?;
+        let mut rest = piece;
+        while let Some(end) = memchr(b'\n', rest) {
+            self.keep(&rest[..end])?;
+            self.turn()?;
+            rest = &rest[end + 1..];
         }
-        Ok(())
+        self.keep(rest)
     }
 
-    fn take(&mut self, byte: u8) -> Result<(), CertErr>
-        ensures { MatchResult result (λ _. IsFed self.old self.new (byte ∷ [])) (IsStopped self.old self.new (byte ∷ [])) }
+    /// Bytes of the unfinished line.
+    fn keep(&mut self, part: &[u8]) -> Result<(), CertErr>
+        requires open { IsOpen self.old }
+        requires part { IsUnbroken part.now }
+        ensures { MatchResult result (λ _. IsFed self.old self.new part.now) (IsStopped self.old self.new part.now) }
     {
-        self.answer()?;
-        if byte == b'\n' {
-            self.close();
-            return self.answer();
-        }
-        match self.unfinished.push(byte) {
+        self.reads();
+        match self.unfinished.push_slice(part) {
             Ok(()) => {
                 self.reads();
                 Ok(())
@@ -75,6 +78,15 @@ impl CertReader {
                 Err(CertErr::NoMemory)
             }
         }
+    }
+
+    /// A line feed.
+    fn turn(&mut self) -> Result<(), CertErr>
+        requires { IsOpen self.old }
+        ensures { MatchResult result (λ _. IsFed self.old self.new (10 ∷ [])) (IsStopped self.old self.new (10 ∷ [])) }
+    {
+        self.close();
+        self.answer()
     }
 
     /// The unfinished line is over.

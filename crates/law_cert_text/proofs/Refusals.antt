@@ -55,25 +55,6 @@ fault_more text more number f = record {
   };
 }
 
-split_piece : (xs : List ℕ) (i d : ℕ) → i < length xs → xs ≡ take i xs ++ get_or xs i d ∷ drop (suc i) xs
-split_piece [] i d lt = absurd (omega arith)
-split_piece (x ∷ xs) zero d lt = refl
-split_piece (x ∷ xs) (suc i) d lt = ap (λ l. x ∷ l) (split_piece xs i d (omega arith))
-
-pub feed_stops : (why : CertErr) (old mid new : Heard) (piece : List ℕ) (i d : ℕ) → i < length piece → IsFed old mid (take i piece) → IsStopped mid new (get_or piece i d ∷ []) why → IsStopped old new piece why
-feed_stops why old mid new piece i d lt fed stopped = record { kept = stopped.kept; cause = by why stopped.cause }
-  where
-    by : (why : CertErr) → Stops mid why ⊎ StopsNow mid (get_or piece i d ∷ []) why → Stops old why ⊎ StopsNow old piece why
-    by (error.Form number) (inl s) = let a = s.0 in let b = fed.after.allowed in absurd cc
-    by error.NoMemory (inl s) = let a = s.0 in let b = fed.after.fed in absurd cc
-    by (error.Form number) (inr s) = let byte = get_or piece i d in let more = drop (suc i) piece in inr (record {
-      before = fed.before;
-      fault = subst (λ t. FaultAt t number FaultyLine)
-          (ap (λ t. (t ++ byte ∷ []) ++ more) fed.text ∙ append_assoc (heard_text old ++ take i piece) (byte ∷ []) more ∙ append_assoc (heard_text old) (take i piece) (byte ∷ more)
-          ∙ ap (λ t. heard_text old ++ t) (sym (split_piece piece i d lt))) (fault_more (heard_text mid ++ byte ∷ []) more number s.fault);
-    })
-    by error.NoMemory (inr s) = inr (record { before = fed.before; fault = tt })
-
 -- an error that is handed on
 pub passed_on : (r : Result Unit CertErr) (why : CertErr) (P : Type 0) (Q : CertErr → Type 0) → IsErrAnd r (λ e. e ≡ why) → Q why → MatchResult r (λ _. P) Q
 passed_on (Ok u) why P Q h q = absurd h

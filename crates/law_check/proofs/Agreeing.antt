@@ -4,16 +4,16 @@ use Rattle.std.proofs.lemmas.List.{drop_more, drop_all}
 use Rattle.law_sig.specs.declared.tree.Tree.{Tree}
 use Rattle.law_sig.specs.declared.parts.Equation.{Equation}
 use Rattle.law_sig.specs.declared.parts.SigParts.{SigParts}
-use Rattle.law_value.specs.declared.bank.ValueId.{ValueId}
-use Rattle.law_value.specs.Values.{Grows, IsShared, tree_of}
-use Rattle.law_gen.specs.Draws.{pools_by}
+use Rattle.law_ids.specs.declared.ids.ValueId.{ValueId}
+use Rattle.law_ids.specs.Values.{Grows, IsShared, tree_of}
+use Rattle.law_draws.specs.Draws.{pools_by}
 use Rattle.law_valid.specs.declared.rule.Answer.{Answer}
 use Rattle.law_valid.specs.declared.rule.Answer.TheVariants.{Yes, No, Over}
 use Rattle.law_valid.specs.declared.rule.Rule.{Rule}
 use Rattle.law_valid.specs.declared.rule.Rule.TheVariants.{V3}
 use Rattle.law_valid.specs.Judged.{If, Valued, Tests, AtTests, Background}
-use Rattle.law_test.specs.Values.{IsValue, tests_by, val_by}
-use Rattle.law_test.proofs.Testing.{value_stays}
+use Rattle.law_testing.specs.Values.{IsValue, tests_by, val_by}
+use Rattle.law_testing.proofs.Testing.{value_stays}
 use Rattle.law_checking.specs.Parts.{IsYes}
 use Rattle.law_checking.proofs.Goes.{tests_goes, at_tests_goes}
 

@@ -3,12 +3,12 @@ use Rattle.std.proofs.Common.{◌≡◌, ℕ, zero, suc, ◌+◌, ◌<◌, ◌�
 use Rattle.law_sig.specs.declared.tree.Tree.{Tree}
 use Rattle.law_sig.specs.declared.parts.Equation.{Equation}
 use Rattle.law_sig.specs.declared.parts.SigParts.{SigParts}
-use Rattle.law_gen.specs.Draws.{pools_by}
+use Rattle.law_draws.specs.Draws.{pools_by}
 use Rattle.law_valid.specs.declared.rule.Answer.{Answer}
 use Rattle.law_valid.specs.declared.rule.Answer.TheVariants.{Yes, No, Over}
 use Rattle.law_valid.specs.declared.rule.Rule.{Rule}
 use Rattle.law_valid.specs.Judged.{If, Valued, AtTests}
-use Rattle.law_test.specs.Values.{IsTestable, tests_by, val_by}
+use Rattle.law_testing.specs.Values.{IsTestable, tests_by, val_by}
 use Rattle.law_laws.specs.Renaming.{HasWidth}
 use Rattle.law_own.specs.Own.{own, IsNextOwn, vars_of}
 use Rattle.law_own.proofs.OwnTests.{own_tells, passes_on}

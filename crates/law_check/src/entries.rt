@@ -1,7 +1,7 @@
 ghost use Rattle.std.specs.Prelude.{◌≡◌, ◌↔◌, [], ◌+◌, length, map, None, IfOk, IsTrue};
 ghost use Rattle.std.specs.List.{AllByRecursion};
-ghost use Rattle.law_value.specs.Values.{Grows};
-ghost use Rattle.law_test.specs.Values.{ArePools};
+ghost use Rattle.law_ids.specs.Values.{Grows};
+ghost use Rattle.law_testing.specs.Values.{ArePools};
 ghost use Rattle.law_cert_text.specs.Certificates.{IsTree};
 ghost use Rattle.law_named.specs.Named.{sort_named};
 ghost use Rattle.law_valid.specs.declared.certificate.Entry.TheVariants as e;

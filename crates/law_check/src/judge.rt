@@ -1,6 +1,6 @@
 ghost use Rattle.std.specs.Prelude.{IfOk};
 ghost use Rattle.law_cert_text.specs.Certificates.{IsCertText};
-ghost use Rattle.law_test.specs.Values.{ArePools};
+ghost use Rattle.law_testing.specs.Values.{ArePools};
 ghost use Rattle.law_checking.specs.Verdicts.{JudgedOver, JudgedPools};
 
 use crate::entries::judge_entries;

@@ -1,9 +1,9 @@
 ghost use Rattle.std.specs.Prelude.{◌≡◌, ◌<◌, IfOk};
-ghost use Rattle.law_value.specs.Values.{Grows};
-ghost use Rattle.law_gen.specs.Draws.{pools_by};
+ghost use Rattle.law_ids.specs.Values.{Grows};
+ghost use Rattle.law_draws.specs.Draws.{pools_by};
 ghost use Rattle.law_valid.specs.declared.rule.Answer.TheVariants.{Yes};
 ghost use Rattle.law_valid.specs.Judged.{Tests, AtTests, Background};
-ghost use Rattle.law_test.specs.Values.{ArePools, IsTestable, tests_by};
+ghost use Rattle.law_testing.specs.Values.{ArePools, IsTestable, tests_by};
 
 use law_forest::{is_yes, value};
 use law_sig::{Equation, NoMemory, Tree};

@@ -8,8 +8,8 @@ use Rattle.law_sig.specs.declared.parts.Equation.{Equation}
 use Rattle.law_sig.specs.declared.parts.SigParts.{SigParts}
 use Rattle.law_laws.proofs.ListFacts.{of_each}
 use Rattle.law_laws.proofs.BodyFacts.{some_is, none_is}
-use Rattle.law_gen.specs.Draws.{pools_by}
-use Rattle.law_test.specs.Values.{IsTestable}
+use Rattle.law_draws.specs.Draws.{pools_by}
+use Rattle.law_testing.specs.Values.{IsTestable}
 use Rattle.law_valid.specs.declared.certificate.Entry.{Entry}
 use Rattle.law_valid.specs.declared.certificate.Entry.TheVariants as e
 use Rattle.law_sig.specs.declared.chain.Step.{Step}

@@ -16,8 +16,8 @@ use Rattle.law_cert_text.specs.declared.cert.Cert.{Cert}
 use Rattle.law_cert_text.specs.Certificates.{IsCertText}
 use Rattle.law_typing.specs.Naming.{named_term}
 use Rattle.law_typing.specs.Typed.{IsTypedAs}
-use Rattle.law_gen.specs.Draws.{pools_by}
-use Rattle.law_gen.specs.Sizes.{AreSmall, IsFirst}
+use Rattle.law_draws.specs.Draws.{pools_by}
+use Rattle.law_draws.specs.Sizes.{AreSmall, IsFirst}
 use Rattle.law_valid.specs.declared.certificate.SortTree.{SortTree}
 use Rattle.law_valid.specs.declared.rule.Answer.{Answer}
 use Rattle.law_valid.specs.declared.rule.Answer.TheVariants as answer

@@ -6,7 +6,7 @@ use Rattle.law_sig.specs.Lists.{In, Each, AreDistinct}
 use Rattle.law_sig.specs.Lists.In.{here, there}
 use Rattle.law_laws.proofs.ListFacts.{in_none, in_split, in_left, in_right, in_rest, of_each, each_of, each_right, each_both, rising_both, rising_at}
 use Rattle.law_sig.specs.declared.seq.NoMemory.{NoMemory}
-use Rattle.law_value.specs.declared.bank.ValueId.{ValueId}
+use Rattle.law_ids.specs.declared.ids.ValueId.{ValueId}
 use Rattle.law_checking.specs.Once.{HaveSame, AreOnce, AreAlike}
 
 -- the first items of a list and the next one

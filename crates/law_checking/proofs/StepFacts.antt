@@ -14,7 +14,7 @@ use Rattle.law_laws.proofs.ListFacts.{each_map, each_of, of_each, each_both, ris
 use Rattle.law_laws.proofs.Orders.{never_before_itself}
 use Rattle.law_laws.proofs.Sorts.{var_sorted}
 use Rattle.law_laws.proofs.Renaming.{all_true, bounded_vars}
-use Rattle.law_test.specs.Values.{IsTestable}
+use Rattle.law_testing.specs.Values.{IsTestable}
 use Rattle.law_valid.specs.declared.certificate.Entry.{Entry}
 use Rattle.law_valid.specs.declared.certificate.Entry.TheVariants as e
 use Rattle.law_sig.specs.declared.chain.Step.{Step}

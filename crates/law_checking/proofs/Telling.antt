@@ -7,17 +7,17 @@ use Rattle.law_sig.specs.declared.tree.Tree.{Tree}
 use Rattle.law_sig.specs.declared.parts.SigParts.{SigParts}
 use Rattle.law_laws.proofs.BodyFacts.{some_is, none_is}
 use Rattle.law_laws.proofs.ListFacts.{in_none, in_rest, of_each, each_of}
-use Rattle.law_value.specs.declared.bank.ValueId.{ValueId}
-use Rattle.law_value.specs.Values.{IsShared, tree_of}
-use Rattle.law_gen.specs.Draws.{pools_by}
+use Rattle.law_ids.specs.declared.ids.ValueId.{ValueId}
+use Rattle.law_ids.specs.Values.{IsShared, tree_of}
+use Rattle.law_draws.specs.Draws.{pools_by}
 use Rattle.law_valid.specs.declared.rule.Answer.{Answer}
 use Rattle.law_valid.specs.declared.rule.Answer.TheVariants.{Yes, No}
 use Rattle.law_valid.specs.declared.rule.Rule.{Rule}
 use Rattle.law_valid.specs.Splits.{AreApart}
 use Rattle.law_valid.specs.Trees.{value_of}
 use Rattle.law_valid.specs.Judged.{If, CutsTell}
-use Rattle.law_test.specs.Values.{Both}
-use Rattle.law_test.proofs.BothFacts.{both_at}
+use Rattle.law_testing.specs.Values.{Both}
+use Rattle.law_testing.proofs.BothFacts.{both_at}
 use Rattle.law_checking.specs.Once.{AreAlike, heads, AreTold}
 use Rattle.law_checking.specs.Splitting.{Nothing, IsNumberValue}
 use Rattle.law_checking.specs.Parts.{IsYes}

@@ -4,17 +4,17 @@ use Rattle.law_sig.specs.Lists.{Each, numbered}
 use Rattle.law_sig.specs.Trees.{joined}
 use Rattle.law_sig.specs.declared.tree.Tree.{Tree}
 use Rattle.law_sig.specs.declared.parts.SigParts.{SigParts}
-use Rattle.law_value.specs.declared.bank.ValueId.{ValueId}
-use Rattle.law_value.specs.Values.{Grows, tree_of}
-use Rattle.law_pool.proofs.Reading.{id_keeps}
-use Rattle.law_gen.specs.Draws.{pools_by}
+use Rattle.law_ids.specs.declared.ids.ValueId.{ValueId}
+use Rattle.law_ids.specs.Values.{Grows, tree_of}
+use Rattle.law_ids.proofs.Reading.{id_keeps}
+use Rattle.law_draws.specs.Draws.{pools_by}
 use Rattle.law_valid.specs.declared.rule.Answer.{Answer}
 use Rattle.law_valid.specs.declared.rule.Answer.TheVariants.{No, Over}
 use Rattle.law_valid.specs.declared.rule.Rule.{Rule}
 use Rattle.law_valid.specs.Trees.{value_of}
 use Rattle.law_valid.specs.Judged.{Valued, ItemValued, ItemsValued}
-use Rattle.law_test.specs.Values.{IsValue, val_by, Both}
-use Rattle.law_test.proofs.BothFacts.{both_more, both_map}
+use Rattle.law_testing.specs.Values.{IsValue, val_by, Both}
+use Rattle.law_testing.proofs.BothFacts.{both_more, both_map}
 use Rattle.law_checking.specs.Splitting.{Nothing, IsNumberValue}
 use Rattle.law_checking.proofs.Onces.{take_next, parted_at}
 

@@ -12,8 +12,8 @@ use Rattle.law_cert_text.specs.declared.cert.SortTree.{SortTree as WrittenTree}
 use Rattle.law_cert_text.specs.declared.cert.TreeLine.{TreeLine}
 use Rattle.law_cert_text.specs.declared.cert.TreeLine.TheVariants as line
 use Rattle.law_cert_text.specs.Certificates.{IsNode, IsTree}
-use Rattle.law_gen.specs.Draws.{pools_by}
-use Rattle.law_test.specs.Values.{IsTestable}
+use Rattle.law_draws.specs.Draws.{pools_by}
+use Rattle.law_testing.specs.Values.{IsTestable}
 use Rattle.law_valid.specs.declared.certificate.Entry.{Entry}
 use Rattle.law_valid.specs.declared.certificate.SortTree.{SortTree}
 use Rattle.law_valid.specs.declared.rule.Answer.{Answer}

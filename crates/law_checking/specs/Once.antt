@@ -1,7 +1,7 @@
 -- Lists with the same items, and values that tell lists of them apart.
 use Rattle.std.specs.Prelude.{◌≡◌, ◌↔◌, ℕ, List, [], ◌∷◌}
 use Rattle.law_sig.specs.Lists.{In, Each, AreDistinct}
-use Rattle.law_value.specs.declared.bank.ValueId.{ValueId}
+use Rattle.law_ids.specs.declared.ids.ValueId.{ValueId}
 
 -- the same numbers, however often
 abbrev pub HaveSame : List ℕ → List ℕ → Type 0

@@ -3,15 +3,15 @@ use Rattle.std.specs.Prelude.{◌≡◌, ℕ, List, Ok, Err, Result, Some}
 use Rattle.law_sig.specs.Trees.{joined}
 use Rattle.law_sig.specs.declared.tree.Tree.{Tree}
 use Rattle.law_sig.specs.declared.parts.SigParts.{SigParts}
-use Rattle.law_value.specs.declared.bank.ValueId.{ValueId}
-use Rattle.law_value.specs.Values.{IsOf, tree_of}
-use Rattle.law_gen.specs.Draws.{pools_by}
+use Rattle.law_ids.specs.declared.ids.ValueId.{ValueId}
+use Rattle.law_ids.specs.Values.{IsOf, tree_of}
+use Rattle.law_draws.specs.Draws.{pools_by}
 use Rattle.law_valid.specs.declared.rule.Answer.{Answer}
 use Rattle.law_valid.specs.declared.rule.Rule.{Rule}
 use Rattle.law_sig.specs.Lists.{numbered}
 use Rattle.law_valid.specs.Trees.{value_of}
 use Rattle.law_valid.specs.Judged.{ItemValued, ItemsValued}
-use Rattle.law_test.specs.Values.{Both}
+use Rattle.law_testing.specs.Values.{Both}
 
 -- nothing follows: what is asked before is an answer
 abbrev pub Nothing : Answer → Type 0

@@ -11,6 +11,7 @@ use Rattle.law_faultless.proofs.OneSignature.{one_signature}
 use Rattle.law_faultless.proofs.TextBack.{back}
 use Rattle.law_named.specs.Named.{entries_named, pools_named}
 use Rattle.law_valid.proofs.Checked.{valid_yes}
+use Rattle.law_explore.specs.LawList.{OneRefusal, NoneWithin}
 use Rattle.law_named.proofs.Meanings.{one_cert_answer}
 use Rattle.law_cli.specs.Commands.{AreWordsOf, most_bytes}
 use Rattle.law_cli.specs.Reading.{WasRead, GaveTooMany}
@@ -25,8 +26,15 @@ use Rattle.law_cli.proofs.CheckAnswers.{Known, good_is_yes, one_check_answer}
 use Rattle.law_cli.proofs.OneAnswer.{Below, good_is_listed, one_answer}
 
 -- what the crates below prove
-below : Below
-below = record { text = one_text_law; fault = one_fault_law; faultless = λ lines parts raw typed. back lines parts typed; signature = one_signature }
+below : OneRefusal → NoneWithin → Below
+below refusal within = record {
+  text = one_text_law;
+  fault = one_fault_law;
+  faultless = λ lines parts raw typed. back lines parts typed;
+  signature = one_signature;
+  refusal = refusal;
+  within = within;
+}
 
 known : Known
 known = record {
@@ -38,13 +46,13 @@ known = record {
 }
 
 -- for each command
-pub one_of_each : OneAnswer
-one_of_each command.Plain bytes text other s u h k = one_answer below bytes text other s u h k
-one_of_each command.Check bytes text other s u h k = one_check_answer known bytes text other s u h k
+pub one_of_each : OneRefusal → NoneWithin → OneAnswer
+one_of_each refusal within command.Plain bytes text other s u h k = one_answer (below refusal within) bytes text other s u h k
+one_of_each refusal within command.Check bytes text other s u h k = one_check_answer known bytes text other s u h k
 
-pub good_is_done : GoodIsDone
-good_is_done command.Plain bytes text s good h = good_is_listed below bytes text s good.lines good.parts good.stated good.within h
-good_is_done command.Check bytes text s good h = good_is_yes known bytes text s good h
+pub good_is_done : OneRefusal → NoneWithin → GoodIsDone
+good_is_done refusal within command.Plain bytes text s good h = good_is_listed (below refusal within) bytes text s good.lines good.parts good.stated good.within h
+good_is_done refusal within command.Check bytes text s good h = good_is_yes known bytes text s good h
 
 -- what was read to the end is all that was told
 all_read : (before now : Option (List ℕ)) (bytes told : List ℕ) (most : ℕ) → before ≡ Some told → WasRead before now bytes most → told ≡ bytes
@@ -66,10 +74,10 @@ never_too_long words before now fb fn kb kn asked words_are can =
     not_too_long before now can.bytes (most_bytes asked) can.told (subst (λ c. length can.bytes ≤ most_bytes c) (one_command words can.asked asked can.words_are words_are) can.short)
 
 -- the status that was planned for what was read
-pub succeeds : (words : List (List ℕ)) (before now : Option (List ℕ)) (fb fn kb kn : ℕ) (asked : Command) (planned s : Status) (bytes text : List ℕ)
+pub succeeds : GoodIsDone → (words : List (List ℕ)) (before now : Option (List ℕ)) (fb fn kb kn : ℕ) (asked : Command) (planned s : Status) (bytes text : List ℕ)
     → AreWordsOf words asked → WasRead before now bytes (most_bytes asked) → IsAnswer asked bytes planned text → (s ≡ planned) ⊎ (s ≡ status.WriteFault) → (s ≡ status.WriteFault → Rose kb kn)
     → CanSucceed words before fb fn kb kn → (s ≡ status.Done) ⊎ (s ≡ status.NoMemory)
-succeeds words before now fb fn kb kn asked planned s bytes text words_are read is (inr e) write can = absurd (can.writes (write e))
-succeeds words before now fb fn kb kn asked planned s bytes text words_are read is (inl e) write can =
+succeeds laws words before now fb fn kb kn asked planned s bytes text words_are read is (inr e) write can = absurd (can.writes (write e))
+succeeds laws words before now fb fn kb kn asked planned s bytes text words_are read is (inl e) write can =
     let good = subst (λ c. IsGood c can.bytes) (one_command words can.asked asked can.words_are words_are) can.good in
-    inl (e ∙ good_is_done asked bytes text planned (subst (IsGood asked) (all_read before now bytes can.bytes (most_bytes asked) can.told read) good) is)
+    inl (e ∙ laws asked bytes text planned (subst (IsGood asked) (all_read before now bytes can.bytes (most_bytes asked) can.told read) good) is)

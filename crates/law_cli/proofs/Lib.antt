@@ -1,3 +1,4 @@
+pub mod LeftFacts
 pub mod TopFacts
 pub mod AnswerFacts
 pub mod Answered

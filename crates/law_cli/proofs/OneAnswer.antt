@@ -18,12 +18,11 @@ use Rattle.law_typing.specs.declared.errors.TypeKind.{TypeKind}
 use Rattle.law_typing.specs.declared.errors.TypeErr.{TypeErr}
 use Rattle.law_typing.specs.declared.errors.TypeErr.TheVariants as type_err
 use Rattle.law_cert_text.specs.Spelling.{list_spelling}
-use Rattle.law_gen.specs.Draws.{pools_by}
+use Rattle.law_draws.specs.Draws.{pools_by}
 use Rattle.law_explore.specs.Refusals.{Refusal, IsRefusal}
 use Rattle.law_explore.specs.Refusals.Refusal.{Assignments, TooManyTerms, ValueTooLarge, Over, BackgroundFails}
-use Rattle.law_explore.specs.LawList.{IsWithin, IsLawListOf}
+use Rattle.law_explore.specs.LawList.{IsWithin, IsLawListOf, OneRefusal, NoneWithin}
 use Rattle.law_explore.specs.Named.{named_list}
-use Rattle.law_explore.proofs.RefusalFacts.{one_refusal, none_within}
 use Rattle.law_cli.specs.Printed.{status_text}
 use Rattle.law_cli.specs.Answers.{most_terms, IsTextOf, IsStated, IsLawListText, HasTypeFault, IsAnswerTo}
 use Rattle.law_cli.specs.declared.status.FormKind.TheVariants as form
@@ -105,6 +104,8 @@ pub record Below : Type 0 where
   pub fault : OneFault
   pub faultless : (lines : List RawLine) (parts : SigParts) → IsRawSig lines → IsTypedAs lines parts → first_fault lines ≡ None
   pub signature : (lines : List RawLine) (p q : SigParts) → IsTypedAs lines p → IsTypedAs lines q → p ≡ q
+  pub refusal : OneRefusal
+  pub within : NoneWithin
 
 same_lines : Below → (bytes : List ℕ) (lines others : List RawLine) → IsTextOf bytes lines → IsTextOf bytes others → lines ≡ others
 same_lines b bytes lines others t u = b.text lines others t.raw u.raw (sym t.spelled ∙ u.spelled)
@@ -130,7 +131,7 @@ two_faulty b bytes s u h k =
 two_refused : Below → (bytes : List ℕ) (s u : Status) → IsRefusedText bytes s → IsRefusedText bytes u → s ≡ u
 two_refused b bytes s u h k =
     let same = same_parts b bytes h.lines k.lines h.parts k.parts h.stated k.stated in
-    let why = one_refusal k.parts most_terms h.why k.why (subst (λ p. IsRefusal p most_terms h.why) same h.refused) k.refused in
+    let why = b.refusal k.parts most_terms h.why k.why (subst (λ p. IsRefusal p most_terms h.why) same h.refused) k.refused in
     h.is ∙ ap₂ status_of same why ∙ sym k.is
 
 two_listed : Below → (bytes text other : List ℕ) → IsLawListText bytes text → IsLawListText bytes other → text ≡ other
@@ -159,7 +160,7 @@ faulty_states_nothing b bytes s lines parts h k =
 
 refused_is_not_within : Below → (bytes : List ℕ) (s : Status) (lines : List RawLine) (parts : SigParts) → IsRefusedText bytes s → IsStated bytes lines parts → IsWithin parts most_terms → ⊥
 refused_is_not_within b bytes s lines parts h k within =
-    none_within parts most_terms within h.why (subst (λ p. IsRefusal p most_terms h.why) (same_parts b bytes h.lines lines h.parts parts h.stated k) h.refused)
+    b.within parts most_terms within h.why (subst (λ p. IsRefusal p most_terms h.why) (same_parts b bytes h.lines lines h.parts parts h.stated k) h.refused)
 
 -- a text that states a signature within all limits has no other answer than its law list
 refused_is_not_good : Below → (bytes : List ℕ) (s : Status) (lines : List RawLine) (parts : SigParts) → IsUnread bytes s ⊎ (IsFaulty bytes s ⊎ IsRefusedText bytes s)

@@ -6,7 +6,7 @@ use Rattle.law_cli.specs.declared.command.Command.{Command}
 use Rattle.law_cli.specs.declared.pieces.Pieces.{Pieces}
 use Rattle.std.proofs.lemmas.List.{length-take}
 use Rattle.std.specs.Io.KnownBytes.{Consumes}
-use Rattle.law_io.proofs.LeftFacts.{Consumes-trans}
+use Rattle.law_cli.proofs.LeftFacts.{Consumes-trans}
 
 -- a list of one item is that item
 pub one_item : {A : Type 0} (xs : List A) (x : A) → length xs ≡ 1 → x ≡ slice_index_or xs 0 x → xs ≡ x ∷ []

@@ -9,6 +9,7 @@ ghost use Rattle.law_cli.specs.declared.status.Status.TheVariants as status;
 use crate::answer::answer_from;
 use crate::command::Command;
 use crate::input::Refusal;
+use crate::laws::answer_laws;
 use crate::plain::Answer;
 use crate::status::{Status, Which, too_long_line, usage_line};
 use law_io::{Sink, Source, push_all};
@@ -51,6 +52,7 @@ pub fn run<S: Source, K: Sink>(
     let Some(asked) = Command::of(words) else {
         return finish(out, usage_line(), Status::Usage);
     };
+    answer_laws();
     match answer_from(alloc, asked, input) {
         Ok(Answer { status, text }) => finish(out, text.as_slice(), status),
         Err(Refusal::TooLong) => finish(

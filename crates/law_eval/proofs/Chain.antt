@@ -2,8 +2,8 @@
 use Rattle.std.proofs.Common.{◌+◌, List, [], sym, subst, arith, append-nil}
 use Rattle.law_sig.specs.declared.tree.Tree.{Tree}
 use Rattle.law_sig.specs.declared.parts.SigParts.{SigParts}
-use Rattle.law_value.specs.Values.{Grows}
-use Rattle.law_value.proofs.ReadFacts.{grows_on}
+use Rattle.law_ids.specs.Values.{Grows}
+use Rattle.law_ids.proofs.Reading.{grows_on}
 use Rattle.law_eval.specs.Work.{Ids}
 use Rattle.law_eval.specs.Runs.{State, Ends, Steps, Stuck, seen}
 use Rattle.law_eval.specs.Took.{IsSound, IsRun, Took}

@@ -4,7 +4,6 @@ pub mod StepFacts
 pub mod BodyFacts
 pub mod TookFacts
 pub mod StuckFacts
-pub mod ResultFacts
 pub mod ChosenFacts
 pub mod Chain
 pub mod Outcome

@@ -7,8 +7,8 @@ use Rattle.law_sig.specs.declared.tree.SymId.{SymId}
 use Rattle.law_sig.specs.declared.tree.Tree.{Tree}
 use Rattle.law_sig.specs.declared.parts.SigParts.{SigParts}
 use Rattle.law_laws.proofs.Application.{gives_ap, costs_over}
-use Rattle.law_value.specs.declared.bank.ValueId.{ValueId}
-use Rattle.law_value.specs.Values.{IsOf, AreOf, tree_of, trees_of}
+use Rattle.law_ids.specs.declared.ids.ValueId.{ValueId}
+use Rattle.law_ids.specs.Values.{IsOf, AreOf, tree_of, trees_of}
 use Rattle.law_eval.specs.Work.{Todo, Ids, IsAnswer}
 use Rattle.law_eval.specs.Work.Todo.{apply}
 use Rattle.law_eval.specs.Runs.{Ends, Stuck, seen}

@@ -8,8 +8,8 @@ use Rattle.law_sig.specs.declared.tree.Body.{Body}
 use Rattle.law_sig.specs.declared.tree.Body.TheOpen as b
 use Rattle.law_sig.specs.declared.tree.Body.TheViews.{out-Body}
 use Rattle.law_sig.specs.declared.parts.SigParts.{SigParts}
-use Rattle.law_value.specs.declared.bank.ValueId.{ValueId}
-use Rattle.law_value.specs.Values.{tree_of, trees_of}
+use Rattle.law_ids.specs.declared.ids.ValueId.{ValueId}
+use Rattle.law_ids.specs.Values.{tree_of, trees_of}
 use Rattle.law_eval.specs.Work.{Running, Ids, IsFirst, LacksRow}
 use Rattle.law_eval.specs.Work.Todo.{eval, build, apply}
 use Rattle.law_eval.specs.Runs.{IsMade, AfterRow, Finishes, Stuck, matched_fields, named_of, seen}

@@ -17,9 +17,9 @@ use Rattle.law_sig.specs.declared.parts.Con.{Con}
 use Rattle.law_sig.specs.declared.parts.Fun.{Fun}
 use Rattle.law_sig.specs.declared.parts.Sym.TheVariants as sym_is
 use Rattle.law_sig.specs.declared.parts.SigParts.{SigParts}
-use Rattle.law_value.specs.declared.bank.ValueId.{ValueId}
-use Rattle.law_value.specs.Values.{IsOf, AreOf, tree_of, trees_of, fields_of, Grows}
-use Rattle.law_value.proofs.BankFacts.{tree_stays, id_stays, trees_stay, ids_stay, held_more, trees_more}
+use Rattle.law_ids.specs.declared.ids.ValueId.{ValueId}
+use Rattle.law_ids.specs.Values.{IsOf, AreOf, tree_of, trees_of, fields_of, Grows}
+use Rattle.law_ids.proofs.BankFacts.{tree_stays, id_stays, trees_stay, ids_stay, held_more, trees_more}
 use Rattle.law_eval.specs.Work.{Todo, Running, Ids, spread_out, IsAdded, IsFirst, IsTaken, IsLeft, IsSpread}
 use Rattle.law_eval.specs.Work.Todo.{eval, each, build, apply, leave}
 use Rattle.law_eval.specs.Runs.{matched_fields, named_of, seen, Steps}

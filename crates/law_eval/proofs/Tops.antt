@@ -1,8 +1,8 @@
 -- Lists whose last item comes next.
 use Rattle.std.proofs.Common.{◌≡◌, ℕ, zero, suc, ◌-◌, ◌<◌, List, [], ◌∷◌, ◌++◌, length, Some, None, slice_get, slice_index_or, ◌≤◌, take, drop, false, ◌==◌, refl, sym, ap, ◌∙◌, arith}
-use Rattle.law_value.proofs.Tops.{pushed}
+use Rattle.law_ids.proofs.Tops.{pushed}
 use Rattle.law_eval.specs.Work.{Ids, Todo, spread_out}
-use Rattle.law_value.specs.Tops.{tops_onto, tops}
+use Rattle.law_ids.specs.Tops.{tops_onto, tops}
 use Rattle.law_eval.specs.Work.Todo.{eval, each}
 use Rattle.law_sig.specs.declared.tree.Body.{Body}
 use Rattle.std.proofs.Math.Seq.{take-length}

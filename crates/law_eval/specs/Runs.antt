@@ -6,8 +6,8 @@ use Rattle.law_sig.specs.declared.tree.Tree.{Tree}
 use Rattle.law_sig.specs.declared.tree.Tree.TheVariants.{App}
 use Rattle.law_sig.specs.declared.tree.Body.{Body}
 use Rattle.law_sig.specs.declared.parts.SigParts.{SigParts}
-use Rattle.law_value.specs.declared.bank.ValueId.{ValueId}
-use Rattle.law_value.specs.Values.{tree_of, trees_of, fields_of}
+use Rattle.law_ids.specs.declared.ids.ValueId.{ValueId}
+use Rattle.law_ids.specs.Values.{tree_of, trees_of, fields_of}
 use Rattle.law_eval.specs.Work.{Todo, Running, Ids}
 use Rattle.law_eval.specs.Work.Todo.{eval, each, build, apply, leave}
 

@@ -9,8 +9,8 @@ use Rattle.law_sig.specs.declared.tree.Tree.TheVariants.{App}
 use Rattle.law_sig.specs.declared.parts.Fun.{Fun}
 use Rattle.law_sig.specs.declared.tree.Body.{Body}
 use Rattle.law_sig.specs.declared.parts.SigParts.{SigParts}
-use Rattle.law_value.specs.declared.bank.ValueId.{ValueId}
-use Rattle.law_value.specs.Values.{IsOf, AreOf, tree_of, trees_of, Grows}
+use Rattle.law_ids.specs.declared.ids.ValueId.{ValueId}
+use Rattle.law_ids.specs.Values.{IsOf, AreOf, tree_of, trees_of, Grows}
 use Rattle.law_eval.specs.Work.{Todo, Running, Ids}
 use Rattle.law_eval.specs.Work.Todo.{eval, each, build, apply, leave}
 use Rattle.law_eval.specs.Runs.{seen, matched_fields, Steps}

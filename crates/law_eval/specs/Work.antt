@@ -2,8 +2,8 @@
 use Rattle.std.specs.Prelude.{◌≡◌, ℕ, List, [], ◌∷◌, ◌++◌, length, Option, Some, slice_get}
 use Rattle.law_sig.specs.declared.tree.SymId.{SymId}
 use Rattle.law_sig.specs.declared.tree.Body.{Body}
-use Rattle.law_value.specs.declared.bank.ValueId.{ValueId}
-use Rattle.law_value.specs.Tops.{tops}
+use Rattle.law_ids.specs.declared.ids.ValueId.{ValueId}
+use Rattle.law_ids.specs.Tops.{tops}
 use Rattle.law_eval.specs.declared.work.Task.{Task}
 use Rattle.law_eval.specs.declared.work.Task.TheVariants as task
 use Rattle.law_eval.specs.declared.work.Frame.{Frame}

@@ -1,6 +1,6 @@
 ghost use Rattle.std.specs.Prelude.{◌≡◌, ◌<◌, ◌^◌, Some, None, length, IfOk, IsErrOf};
 ghost use Rattle.law_sig.specs.Evaluate.{ap};
-ghost use Rattle.law_value.specs.Values.{IsOf, AreOf, tree_of, trees_of, Grows};
+ghost use Rattle.law_ids.specs.Values.{IsOf, AreOf, tree_of, trees_of, Grows};
 
 use super::error::EvalErr;
 use super::steps::run;

@@ -6,7 +6,7 @@ ghost use Rattle.law_sig.specs.Trees.{same_symbol};
 ghost use Rattle.law_sig.specs.Signature.{is_declared_sort, constructors};
 ghost use Rattle.law_sig.specs.WellFormed.{IsDeclared};
 ghost use Rattle.law_sig.specs.Evaluate.{chosen};
-ghost use Rattle.law_value.specs.Values.{AreOf, trees_of};
+ghost use Rattle.law_ids.specs.Values.{AreOf, trees_of};
 ghost use Rattle.law_eval.specs.Took.{IsChosen};
 
 use law_sig::{Body, Fun, Sig, SortId, SymId};

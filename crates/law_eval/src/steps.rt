@@ -4,7 +4,7 @@ ghost use Rattle.law_sig.specs.Signature.{symbol_at};
 ghost use Rattle.law_sig.specs.WellFormed.{IsWellFormed};
 ghost use Rattle.law_sig.specs.declared.parts.SigParts.{SigParts};
 ghost use Rattle.law_sig.specs.declared.parts.Sym.TheVariants.{Fun as a_function};
-ghost use Rattle.law_value.specs.Values.{IsOf, AreOf, Grows, tree_of};
+ghost use Rattle.law_ids.specs.Values.{IsOf, AreOf, Grows, tree_of};
 ghost use Rattle.law_eval.specs.Work.{ids_of, todo_of, Running, IsFirst};
 ghost use Rattle.law_eval.specs.Work.Todo.{eval, apply};
 ghost use Rattle.law_eval.specs.Runs.{seen, matched_fields, Stuck};

@@ -1,7 +1,7 @@
 ghost use Rattle.std.specs.Prelude.{◌≡◌, ◌+◌, [], ◌∷◌, ◌++◌, ◌⊎◌, List, Some, None, slice_get, MatchOption, length, OnOk, IfOk, IsErrOf};
 ghost use Rattle.law_eval.specs.Work.{ids_of, todo_of, running, Ids, Running, IsAdded, IsTaken, LacksRow, IsLeft, IsSpread, IsFirst, IsAnswer};
 ghost use Rattle.law_eval.specs.Work.Todo.{eval, each, apply, leave};
-ghost use Rattle.law_value.specs.declared.bank.ValueId.{ValueId};
+ghost use Rattle.law_ids.specs.declared.ids.ValueId.{ValueId};
 
 use super::error::EvalErr;
 use law_sig::{Body, SymId};

@@ -1,18 +1,21 @@
 -- What an error tells, and background equations that hold or break.
-use Rattle.std.proofs.Common.{◌≡◌, ◌≢◌, ℕ, zero, suc, ◌+◌, ◌<◌, ◌≤◌, inl, inr, Option, Some, None, IsSome, Result, Ok, Err, IfErr, List, [], ◌∷◌, length, take, slice_get, slice_index_or, sym, refl, ap, ◌∙◌, subst, arith}
+use Rattle.std.proofs.Common.{◌≡◌, ◌≢◌, ℕ, zero, suc, ◌+◌, ◌<◌, ◌≤◌, Option, Some, None, IsSome, Result, Ok, Err, IfErr, List, [], ◌∷◌, length, take, slice_get, slice_index_or, sym, refl, ap, ◌∙◌, subst, arith}
 use Rattle.std.specs.Result.{IsErrAnd}
-use Rattle.std.proofs.lemmas.Bool.{cases_lt}
 use Rattle.std.proofs.lemmas.Option.{slice_get-get_or}
 use Rattle.law_sig.specs.Lists.{Each}
 use Rattle.law_sig.specs.Tests.{Agrees}
 use Rattle.law_sig.specs.declared.tree.Tree.{Tree}
 use Rattle.law_sig.specs.declared.parts.Equation.{Equation}
 use Rattle.law_sig.specs.declared.parts.SigParts.{SigParts}
-use Rattle.law_value.specs.declared.bank.ValueId.{ValueId}
-use Rattle.law_value.specs.Values.{IsShared, tree_of, Grows}
-use Rattle.law_gen.specs.Draws.{pools_by}
-use Rattle.law_test.specs.Values.{IsValue, tests_by, val_by}
-use Rattle.law_test.proofs.Testing.{value_stays}
+use Rattle.law_laws.specs.Renaming.{HasWidth}
+use Rattle.law_own.specs.Own.{IsNextOwn, vars_of}
+use Rattle.law_own.proofs.OwnTests.{own_tells, passes_on}
+use Rattle.law_own.proofs.Standing.{first_within, second_within}
+use Rattle.law_ids.specs.declared.ids.ValueId.{ValueId}
+use Rattle.law_ids.specs.Values.{IsShared, tree_of, Grows}
+use Rattle.law_draws.specs.Draws.{pools_by}
+use Rattle.law_testing.specs.Values.{IsTestable, IsValue, tests_by, val_by}
+use Rattle.law_testing.proofs.Testing.{value_stays}
 use Rattle.law_explore.specs.declared.refusal.ExploreErr.{ExploreErr}
 use Rattle.law_explore.specs.declared.refusal.ExploreErr.TheVariants as err
 use Rattle.law_explore.specs.Refusals.{Refusal, IsFirstAnswer, Breaks, HasBrokenBackground, IsTold}
@@ -76,11 +79,15 @@ breaks_first parts number test e within holds r breaks = record {
   before = λ k less b h. let own = holds k less in breaks_not parts number k e own.value own.left own.right b h;
 }
 
-pub holds_on : (parts : SigParts) (e : Equation) (test : ℕ) → ((k : ℕ) → k < test → HoldsAt parts e k) → HoldsAt parts e test → (k : ℕ) → k < test + 1 → HoldsAt parts e k
-holds_on parts e test holds own k less = elim (cases_lt k test) [
-  | inl l ↦ holds k l
-  | inr l ↦ let is : test ≡ k = omega arith in subst (HoldsAt parts e) is own
-]
+-- up to the next own test of the variables
+pub holds_on : (parts : SigParts) → HasWidth parts → (e : Equation) → IsTestable parts e.left → IsTestable parts e.right → (test next : ℕ) → ((k : ℕ) → k < test → HoldsAt parts e k)
+    → HoldsAt parts e test → IsNextOwn parts (vars_of e.left e.right) test next → (k : ℕ) → k < next → HoldsAt parts e k
+holds_on parts has e left right test next holds own step = passes_on parts has (vars_of e.left e.right) (HoldsAt parts e)
+    (λ t h. record {
+      value = h.value;
+      left = sym (own_tells parts has (vars_of e.left e.right) (pools_by parts) t e.left left.variables (first_within e.left e.right)) ∙ h.left;
+      right = sym (own_tells parts has (vars_of e.left e.right) (pools_by parts) t e.right right.variables (second_within e.left e.right)) ∙ h.right;
+    }) test next step holds own
 
 pub holds_all : (parts : SigParts) (e : Equation) (test : ℕ) → ((k : ℕ) → k < test → HoldsAt parts e k) → tests_by parts ≤ test → Agrees parts (pools_by parts) e.left e.right
 holds_all parts e test holds end = record {

@@ -80,32 +80,32 @@ equation_rising R terms firsts at = by (slice_get terms at) (slice_get firsts at
     by (Some t) None = tt
     by (Some t) (Some first) = one (first == at) (record { left = t; right = get_or terms first t })
 
-module _ (parts : SigParts) (pools : Pools) (terms : List Tree) (vector : Tree → List ℕ) (firsts : List ℕ)
-    (universe : IsUniverse parts terms) (tells : Tells parts pools terms vector) (are : AreFirsts (map vector terms) firsts) where
+module _ (parts : SigParts) (pools : Pools) (terms : List Tree) (class : Tree → ℕ) (firsts : List ℕ)
+    (universe : IsUniverse parts terms) (tells : Tells parts pools terms class) (are : AreFirsts (map class terms) firsts) where
   -- the term at a place, and the term at its first place
   record HasFirst (at : ℕ) (t : Tree) : Type 0 where
     first : ℕ
     partner : Tree
     first_is : slice_get firsts at ≡ Some first
     there_is : slice_get terms first ≡ Some partner
-    same : vector t ≡ vector partner
-    lowest : (k : ℕ) (w : Tree) → slice_get terms k ≡ Some w → vector t ≡ vector w → first ≤ k
+    same : class t ≡ class partner
+    lowest : (k : ℕ) (w : Tree) → slice_get terms k ≡ Some w → class t ≡ class w → first ≤ k
 
   has_first : (at : ℕ) (t : Tree) → slice_get terms at ≡ Some t → HasFirst at t
   has_first at t e =
       let less = slice_get_within terms at t e in
-      let long = are.one_each ∙ length-map terms vector in
+      let long = are.one_each ∙ length-map terms class in
       let found = slice_get-get_or firsts at 0 (omega arith) in
       let i = are.each at (get_or firsts at 0) found in
-      let own : i.vector ≡ vector t = some_is (sym i.here ∙ slice_get-map vector terms at ∙ ap (option_map vector) e) in
-      let (u, u_is, u_vector) = mapped_some vector (slice_get terms (get_or firsts at 0)) i.vector (sym (slice_get-map vector terms (get_or firsts at 0)) ∙ i.there) in
+      let own : i.class ≡ class t = some_is (sym i.here ∙ slice_get-map class terms at ∙ ap (option_map class) e) in
+      let (u, u_is, u_class) = mapped_some class (slice_get terms (get_or firsts at 0)) i.class (sym (slice_get-map class terms (get_or firsts at 0)) ∙ i.there) in
       record {
         first = get_or firsts at 0;
         partner = u;
         first_is = found;
         there_is = u_is;
-        same = sym own ∙ sym u_vector;
-        lowest = λ k w w_is w_vector. i.least k (slice_get-map vector terms k ∙ ap (option_map vector) w_is ∙ ap Some (sym w_vector ∙ sym own));
+        same = sym own ∙ sym u_class;
+        lowest = λ k w w_is w_class. i.least k (slice_get-map class terms k ∙ ap (option_map class) w_is ∙ ap Some (sym w_class ∙ sym own));
       }
 
   is_least : (sort : SortId) (at : ℕ) (t : Tree) → slice_get terms at ≡ Some t → sort_of parts t ≡ Some sort → (h : HasFirst at t) → IsLeast parts pools sort t h.partner

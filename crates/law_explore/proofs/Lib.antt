@@ -10,6 +10,7 @@ pub mod LawFacts
 pub mod InstanceFacts
 pub mod Breaking
 pub mod VectorFacts
+pub mod ClassFacts
 pub mod KnownFacts
 pub mod VectorsTell
 pub mod RefusalFacts

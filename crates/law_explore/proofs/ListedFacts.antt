@@ -1,6 +1,5 @@
--- The equations of the universe with the first places of its vectors are the law list.
-use Rattle.std.proofs.Common.{◌≡◌, ℕ, ◌<◌, ◌≤◌, IsSome, List, length, map, slice_index_or, Vec, sym, refl, ap, ap₂, ◌∙◌, subst, arith}
-use Rattle.std.specs.declared.alloc.Global.{Global}
+-- The equations of the universe with the first places of its classes are the law list.
+use Rattle.std.proofs.Common.{◌≡◌, ℕ, ◌<◌, ◌≤◌, IsSome, List, length, map, slice_index_or, sym, refl, ap, ap₂, ◌∙◌, subst, arith}
 use Rattle.std.proofs.Math.Path.{subst₂}
 use Rattle.std.proofs.lemmas.Option.{slice_get-get_or, slice_get_within}
 use Rattle.law_sig.specs.Tests.{Pools, assignments, Agrees, IsDefined}
@@ -10,37 +9,38 @@ use Rattle.law_sig.specs.declared.parts.Equation.{Equation}
 use Rattle.law_sig.specs.declared.parts.SigParts.{SigParts}
 use Rattle.law_laws.proofs.Coverage.{covers}
 use Rattle.law_laws.proofs.ListFacts.{each_map}
-use Rattle.law_value.specs.Values.{IsShared}
-use Rattle.law_gen.specs.Draws.{pools_by}
-use Rattle.law_test.proofs.BothFacts.{both_long}
+use Rattle.law_ids.specs.Values.{IsShared}
+use Rattle.law_draws.specs.Draws.{pools_by}
+use Rattle.law_testing.proofs.BothFacts.{both_long}
 use Rattle.law_explore.specs.Universe.{IsUniverse}
 use Rattle.law_explore.specs.Firsts.{AreFirsts}
 use Rattle.law_explore.specs.Equations.{equations}
 use Rattle.law_explore.specs.Refusals.{HasSmallValues}
-use Rattle.law_explore.specs.Values.{IsVector, AreVectors, items_of}
+use Rattle.law_explore.specs.Values.{HasVector}
+use Rattle.law_explore.specs.Classes.{AreClasses}
 use Rattle.law_sig.specs.Laws.{IsBackgroundTrue}
 use Rattle.law_explore.specs.LawList.{AreLaws, IsLawListOf}
 use Rattle.law_explore.proofs.LawFacts.{equations_are, has_least}
-use Rattle.law_explore.proofs.VectorsTell.{own_vector, vectors_are, vectors_tell, all_defined}
+use Rattle.law_explore.proofs.VectorsTell.{own_class, classes_are, classes_tell, all_defined}
 
--- the terms, their vectors and the first places, as they were made
-pub record AreListed (parts : SigParts) (bank terms : List Tree) (vectors : List (Vec ℕ Global)) (firsts : List ℕ) : Type 0 where
+-- the terms, their classes and the first places, as they were made
+pub record AreListed (parts : SigParts) (bank terms : List Tree) (classes firsts : List ℕ) : Type 0 where
   pub universe : IsUniverse parts terms
   pub shared : IsShared bank
-  pub have : AreVectors parts bank terms vectors
-  pub are_firsts : AreFirsts (items_of vectors) firsts
+  pub are : AreClasses parts bank terms classes
+  pub are_firsts : AreFirsts classes firsts
 
-module _ (parts : SigParts) (bank terms : List Tree) (vectors : List (Vec ℕ Global)) (firsts : List ℕ) (made : AreListed parts bank terms vectors firsts) where
-  one_each : length terms ≡ length (items_of vectors)
-  one_each = both_long (IsVector parts bank) terms (items_of vectors) made.have
+module _ (parts : SigParts) (bank terms : List Tree) (classes firsts : List ℕ) (made : AreListed parts bank terms classes firsts) where
+  one_each : length terms ≡ length classes
+  one_each = both_long (HasVector parts bank made.are.vectors) terms classes made.are.have
 
   laws_are : AreLaws parts (equations terms firsts)
   laws_are =
-      let own = own_vector parts bank made.shared terms vectors made.have in
-      let same : map own terms ≡ items_of vectors = vectors_are parts terms (items_of vectors) made.universe.ordered one_each in
+      let own = own_class parts bank made.shared terms classes made.are in
+      let same : map own terms ≡ classes = classes_are parts terms classes made.universe.ordered one_each in
       let are : AreFirsts (map own terms) firsts = subst (λ l. AreFirsts l firsts) (sym same) made.are_firsts in
-      let tells = vectors_tell parts bank made.shared terms vectors made.have made.universe in
-      let defined = all_defined parts bank made.shared terms vectors made.have made.universe in
+      let tells = classes_tell parts bank made.shared terms classes made.are in
+      let defined = all_defined parts bank made.shared terms classes made.are made.universe in
       let listed = equations_are parts (pools_by parts) terms own firsts made.universe tells are in
       record {
         listed = listed;
@@ -55,7 +55,7 @@ module _ (parts : SigParts) (bank terms : List Tree) (vectors : List (Vec ℕ Gl
   firsts_within : (at : ℕ) → at < length firsts → slice_index_or firsts at 0 < length terms
   firsts_within at less =
       let i = made.are_firsts.each at (slice_index_or firsts at 0) (slice_get-get_or firsts at 0 less) in
-      let within = slice_get_within (items_of vectors) (slice_index_or firsts at 0) i.vector i.there in
+      let within = slice_get_within classes (slice_index_or firsts at 0) i.class i.there in
       let long = one_each in
       omega arith
 

@@ -12,8 +12,8 @@ use Rattle.law_sig.specs.declared.parts.Equation.{Equation}
 use Rattle.law_sig.specs.declared.parts.SigParts.{SigParts}
 use Rattle.law_laws.proofs.ListFacts.{of_each}
 use Rattle.law_laws.proofs.Orders.{before_decided}
-use Rattle.law_gen.specs.Draws.{pools_by}
-use Rattle.law_gen.specs.Sizes.{AreSmall, IsFirstIn}
+use Rattle.law_draws.specs.Draws.{pools_by}
+use Rattle.law_draws.specs.Sizes.{AreSmall, IsFirstIn}
 use Rattle.law_explore.specs.Refusals.{Refusal, OrElse, IsFirstAnswer, HasManyAssignments, HasManyTerms, HasLargeValue, HasSmallValues, Breaks, BreaksAt, HasBrokenBackground, LacksValue, HasLackingTerm, IsRefusal}
 use Rattle.law_explore.specs.Refusals.Refusal.{ValueTooLarge, Over}
 use Rattle.law_explore.specs.Refusals.Breaks.{left_over, right_over, differs}

@@ -40,12 +40,12 @@ use Rattle.law_lines.specs.declared.raw.RawLine.{RawLine}
 use Rattle.law_typing.specs.Naming.{sort_name, symbol_name, raw_term, named_term, name_step}
 use Rattle.law_typing.specs.Typed.{HasFewSorts}
 use Rattle.law_typing.proofs.Spelled.{name_same, named_nodes, named_depth}
-use Rattle.law_pool.proofs.GivenFacts.{have_count}
-use Rattle.law_gen.specs.Draws.{choices, chosen, Drawn, in_turn, value_drawn, values_drawn, sorts_of, pool_drawn, generator_of, pools_from, pools_by}
-use Rattle.law_gen.specs.Sizes.{AreSmall}
-use Rattle.law_gen.proofs.DrawFacts.{above_zero, chosen_within, drawing, in_turn_length}
-use Rattle.law_gen.proofs.First.{length_first}
-use Rattle.law_gen.proofs.PoolFacts.{pools_count}
+use Rattle.law_ids.proofs.GivenFacts.{have_count}
+use Rattle.law_draws.specs.Draws.{choices, chosen, Drawn, in_turn, value_drawn, values_drawn, sorts_of, pool_drawn, generator_of, pools_from, pools_by}
+use Rattle.law_draws.specs.Sizes.{AreSmall}
+use Rattle.law_draws.proofs.DrawFacts.{above_zero, chosen_within, drawing, in_turn_length}
+use Rattle.law_draws.proofs.First.{length_first}
+use Rattle.law_draws.proofs.ShapeFacts.{pools_count}
 use Rattle.law_cert_text.specs.declared.cert.LawList.{LawList}
 use Rattle.law_cert_text.specs.Certificates.{IsWritten, IsValues, IsPlainLaw, IsListText}
 use Rattle.law_cert_text.specs.Certificates as text

@@ -3,7 +3,7 @@ use Rattle.std.proofs.Common.{◌≡◌, ℕ, zero, suc, ◌+◌, ◌<◌, ◌^�
 use Rattle.std.specs.declared.alloc.Global.{Global}
 use Rattle.std.proofs.lemmas.Bool.{cases_lt}
 use Rattle.std.proofs.lemmas.List.{length_push, map_push, get_or_default}
-use Rattle.std.proofs.lemmas.Option.{slice_get-map, get_or_from_slice_get}
+use Rattle.std.proofs.lemmas.Option.{slice_get-map, slice_get-get_or, get_or_from_slice_get}
 use Rattle.law_sig.specs.Lists.{In, Each}
 use Rattle.law_sig.specs.WellFormed.{IsWellFormed}
 use Rattle.law_sig.specs.declared.seq.NoMemory.{NoMemory}
@@ -12,21 +12,25 @@ use Rattle.law_sig.specs.declared.tree.SymId.{SymId}
 use Rattle.law_sig.specs.declared.tree.Tree.{Tree}
 use Rattle.law_sig.specs.declared.tree.Tree.TheVariants.{Var, App}
 use Rattle.law_sig.specs.declared.parts.SigParts.{SigParts}
-use Rattle.law_laws.proofs.ListFacts.{each_map}
+use Rattle.law_laws.specs.Renaming.{HasWidth}
 use Rattle.law_laws.proofs.TreeFacts.{same_app, var_no_app}
-use Rattle.law_value.specs.declared.bank.ValueId.{ValueId}
-use Rattle.law_value.specs.Values.{AreOf, Grows}
-use Rattle.law_pool.proofs.Reading.{each_at, take_next}
+use Rattle.law_own.specs.Own.{own, vars_of}
+use Rattle.law_own.proofs.OwnTests.{own_tells}
+use Rattle.law_own.proofs.Standing.{first_within}
+use Rattle.law_ids.specs.declared.ids.ValueId.{ValueId}
+use Rattle.law_ids.specs.Values.{AreOf, Grows}
+use Rattle.law_ids.proofs.Reading.{each_at, take_next}
 use Rattle.law_eval.specs.declared.error.EvalErr.{EvalErr}
-use Rattle.law_gen.specs.Draws.{pools_by}
-use Rattle.law_test.specs.Values.{IsTestable, IsValue, Both, applied_value, tests_by, val_by}
-use Rattle.law_test.proofs.BothFacts.{both_more, both_map, both_long}
-use Rattle.law_test.proofs.Testing.{value_stays, values_held, application_value, few_args}
+use Rattle.law_draws.specs.Draws.{pools_by}
+use Rattle.law_testing.specs.Values.{IsTestable, IsValue, Both, applied_value, tests_by, val_by}
+use Rattle.law_testing.proofs.BothFacts.{both_more, both_map, both_long}
+use Rattle.law_testing.proofs.Testing.{value_stays, values_held, application_value, few_args}
 use Rattle.law_explore.specs.declared.refusal.ExploreErr.{ExploreErr}
 use Rattle.law_explore.specs.Refusals.{LacksValue, IsTold, IsOver}
 use Rattle.law_explore.specs.Refusals.Refusal.{Over}
-use Rattle.law_explore.specs.Values.{AreIds, IsVector, StandsAt, HasArgsIn, HasArgPlaces, HasVector, IsKnown, HasKnownArgs, HasArgVectors, IsRead, IsMadeIn, items_of, id_in, id_at, ids_at}
+use Rattle.law_explore.specs.Values.{AreIds, IsVector, StandsAt, IsPlaced, HasClass, HasArgClasses, HasVector, HasArgVectors, IsRead, IsMadeIn, items_of, id_in, id_at, ids_at}
 use Rattle.law_explore.proofs.Breaking.{told_on}
+use Rattle.law_explore.proofs.LawFacts.{some_is}
 
 -- One id more
 
@@ -135,31 +139,29 @@ lacks_value parts bank test term ids none are within =
       before = ids_before parts bank term test ids are;
     })
 
--- Places of arguments
+-- The own test of a term's variables
 
-pub no_args : (terms : List Tree) (t : Tree) (s : SortId) (i : ℕ) (places : List ℕ) → t ≡ Var s i → HasArgPlaces terms t places
-no_args terms t s i places is f args other = absurd (var_no_app s i f args (sym is ∙ other))
+-- the term has the same value there
+pub own_value : (parts : SigParts) → HasWidth parts → (term : Tree) → IsTestable parts term → (test first : ℕ) → first ≡ own parts (vars_of term term) test
+    → val_by parts first term ≡ val_by parts test term
+own_value parts has term testable test first is = ap (λ n. val_by parts n term) is
+    ∙ own_tells parts has (vars_of term term) (pools_by parts) test term testable.variables (first_within term term)
 
-pub args_placed : (terms : List Tree) (t : Tree) (f : SymId) (args slice : List Tree) → t ≡ App f args → slice ≡ args → (r : Result (List ℕ) NoMemory)
-    → IfOk r (λ places. Both (StandsAt terms) slice places) → IfOk r (λ places. HasArgPlaces terms t places)
-args_placed terms t f args slice is same (Ok places) both = λ g others other.
-    subst (λ ts. Both (StandsAt terms) ts places) (same ∙ (same_app f g args others (sym is ∙ other)).1) both
-args_placed terms t f args slice is same (Err e) both = both
+-- so its id there is one here
+pub own_id : (parts : SigParts) (bank : List Tree) (term : Tree) (test first : ℕ) (ids : List ℕ) → AreIds parts bank term test ids → first < test
+    → val_by parts first term ≡ val_by parts test term → IsValue parts bank test term (id_in ids first)
+own_id parts bank term test first ids are less same = let there = are.values first less in record { held = there.held; is = sym same ∙ there.is }
 
-pub args_in : (parts : SigParts) (bank terms : List Tree) (vectors : List (Vec ℕ Global)) (t : Tree) → HasKnownArgs parts bank terms vectors t → HasArgsIn terms t
-args_in parts bank terms vectors t known f args is = each_map (IsKnown parts bank terms vectors) (λ s. In s terms) (λ s k. k.there) args (known f args is)
+-- Classes of arguments
 
-known_vectors : (parts : SigParts) (bank terms : List Tree) (vectors : List (Vec ℕ Global)) (args : List Tree) (places : List ℕ)
-    → Each (IsKnown parts bank terms vectors) args → Both (StandsAt terms) args places → Both (HasVector parts bank vectors) args places
-known_vectors parts bank terms vectors [] [] known both = tt
-known_vectors parts bank terms vectors [] (p ∷ places) known both = absurd both
-known_vectors parts bank terms vectors (t ∷ args) [] known both = absurd both
-known_vectors parts bank terms vectors (t ∷ args) (p ∷ places) known both = (known.0.has p both.0, known_vectors parts bank terms vectors args places known.1 both.1)
+pub no_args : (terms : List Tree) (classes : List ℕ) (t : Tree) (s : SortId) (i : ℕ) (found : List ℕ) → t ≡ Var s i → HasArgClasses terms classes t found
+no_args terms classes t s i found is f args other = absurd (var_no_app s i f args (sym is ∙ other))
 
-pub args_at : (parts : SigParts) (bank terms : List Tree) (vectors : List (Vec ℕ Global)) (t : Tree) (places own : List ℕ) → HasKnownArgs parts bank terms vectors t
-    → HasArgPlaces terms t places → own ≡ places → HasArgVectors parts bank vectors t own
-args_at parts bank terms vectors t places own known stand same f args is =
-    subst (Both (HasVector parts bank vectors) args) (sym same) (known_vectors parts bank terms vectors args places (known f args is) (stand f args is))
+pub args_found : (terms : List Tree) (classes : List ℕ) (t : Tree) (f : SymId) (args slice : List Tree) → t ≡ App f args → slice ≡ args → (r : Result (List ℕ) NoMemory)
+    → IfOk r (λ found. Both (HasClass terms classes) slice found) → IfOk r (λ found. HasArgClasses terms classes t found)
+args_found terms classes t f args slice is same (Ok found) both = λ g others other.
+    subst (λ ts. Both (HasClass terms classes) ts found) (same ∙ (same_app f g args others (sym is ∙ other)).1) both
+args_found terms classes t f args slice is same (Err e) both = both
 
 -- they keep their vectors while the bank grows
 pub args_stay : (parts : SigParts) (old new : List Tree) (vectors : List (Vec ℕ Global)) (t : Tree) (places : List ℕ) → Grows old new → HasArgVectors parts old vectors t places
@@ -168,35 +170,64 @@ args_stay parts old new vectors t places grows have f args is =
     both_map (HasVector parts old vectors) (HasVector parts new vectors) (λ s p k. record { vector = k.vector; there = k.there; is = vector_stays parts old new s k.vector.items grows k.is })
     args places (have f args is)
 
--- one place more
-pub place_found : (terms : List Tree) (t : Tree) (o : Option ℕ) (place : ℕ) → o ≡ Some place → MatchOption o (In t terms → ⊥) (λ k. StandsAt terms t k) → StandsAt terms t place
-place_found terms t o place is found = subst (λ p. MatchOption p (In t terms → ⊥) (λ k. StandsAt terms t k)) is found
+-- one class more
+pub class_found : (terms : List Tree) (classes : List ℕ) (t : Tree) (o : Option ℕ) (place class : ℕ) → o ≡ Some place → MatchOption o (In t terms → ⊥) (λ k. StandsAt terms t k)
+    → place < length classes → class ≡ slice_index_or classes place 0 → HasClass terms classes t class
+class_found terms classes t o place class is found within there = record {
+  place = place;
+  stands = subst (λ p. MatchOption p (In t terms → ⊥) (λ k. StandsAt terms t k)) is found;
+  is = slice_get-get_or classes place 0 within ∙ ap Some (sym there);
+}
 
-pub always_found : (terms args : List Tree) (at : ℕ) (t : Tree) (o : Option ℕ) → Each (λ s. In s terms) args → at < length args → t ≡ slice_index_or args at t → o ≡ None
+pub class_within : (terms args : List Tree) (classes : List ℕ) (at : ℕ) (t : Tree) (o : Option ℕ) (place : ℕ) → Each (IsPlaced terms classes) args → at < length args
+    → t ≡ slice_index_or args at t → o ≡ Some place → MatchOption o (In t terms → ⊥) (λ k. StandsAt terms t k) → place < length classes
+class_within terms args classes at t o place all less there is found =
+    (each_at (IsPlaced terms classes) args at t all less there).within place (subst (λ p. MatchOption p (In t terms → ⊥) (λ k. StandsAt terms t k)) is found)
+
+pub always_found : (terms args : List Tree) (classes : List ℕ) (at : ℕ) (t : Tree) (o : Option ℕ) → Each (IsPlaced terms classes) args → at < length args → t ≡ slice_index_or args at t → o ≡ None
     → MatchOption o (In t terms → ⊥) (λ k. StandsAt terms t k) → ⊥
-always_found terms args at t o all less there is found =
+always_found terms args classes at t o all less there is found =
     let none : In t terms → ⊥ = subst (λ p. MatchOption p (In t terms → ⊥) (λ k. StandsAt terms t k)) is found in
-    none (each_at (λ s. In s terms) args at t all less there)
+    none (each_at (IsPlaced terms classes) args at t all less there).there
 
-pub places_next : (terms args : List Tree) (at : ℕ) (t : Tree) (place : ℕ) (places more : List ℕ) → at < length args → t ≡ slice_index_or args at t → Both (StandsAt terms) (take at args) places
-    → StandsAt terms t place → more ≡ places ++ place ∷ [] → Both (StandsAt terms) (take (at + 1) args) more
-places_next terms args at t place places more less there both is grows =
-    subst (Both (StandsAt terms) (take (at + 1) args)) (sym grows)
-    (subst (λ l. Both (StandsAt terms) l (places ++ place ∷ [])) (sym (take_next args at t less there))
-    (both_more (StandsAt terms) (take at args) places t place both is))
+pub classes_next : (terms args : List Tree) (classes : List ℕ) (at : ℕ) (t : Tree) (class : ℕ) (found more : List ℕ) → at < length args → t ≡ slice_index_or args at t
+    → Both (HasClass terms classes) (take at args) found → HasClass terms classes t class → more ≡ found ++ class ∷ [] → Both (HasClass terms classes) (take (at + 1) args) more
+classes_next terms args classes at t class found more less there both is grows =
+    subst (Both (HasClass terms classes) (take (at + 1) args)) (sym grows)
+    (subst (λ l. Both (HasClass terms classes) l (found ++ class ∷ [])) (sym (take_next args at t less there))
+    (both_more (HasClass terms classes) (take at args) found t class both is))
 
 -- One argument's id more
 
-pub ids_at_next : (vectors : List (Vec ℕ Global)) (test at d : ℕ) (places : List ℕ) (ids more : List ValueId) (v : Vec ℕ Global) (slice : List ℕ) → Each (IsRead vectors test) places
-    → ids ≡ ids_at vectors test (take at places) → at < length places → v ≡ slice_index_or vectors (slice_index_or places at 0) v → slice ≡ v.items
-    → more ≡ ids ++ record { 0 = slice_index_or slice test d } ∷ [] → more ≡ ids_at vectors test (take (at + 1) places)
-ids_at_next vectors test at d places ids more v slice reads so_far less is own grows =
-    let p = slice_index_or places at 0 in
-    let there : p ≡ slice_index_or places at p = get_or_default places at 0 p less in
-    let read = each_at (IsRead vectors test) places at p reads less there in
-    let v_is : v ≡ read.vector = is ∙ get_or_from_slice_get vectors p read.vector v read.there in
+pub ids_at_next : (vectors : List (Vec ℕ Global)) (test at d : ℕ) (classes : List ℕ) (ids more : List ValueId) (v : Vec ℕ Global) (slice : List ℕ) → Each (IsRead vectors test) classes
+    → ids ≡ ids_at vectors test (take at classes) → at < length classes → Some v ≡ slice_get vectors (slice_index_or classes at 0) → slice ≡ v.items
+    → more ≡ ids ++ record { 0 = slice_index_or slice test d } ∷ [] → more ≡ ids_at vectors test (take (at + 1) classes)
+ids_at_next vectors test at d classes ids more v slice reads so_far less is own grows =
+    let p = slice_index_or classes at 0 in
+    let there : p ≡ slice_index_or classes at p = get_or_default classes at 0 p less in
+    let read = each_at (IsRead vectors test) classes at p reads less there in
+    let v_is : v ≡ read.vector = some_is (is ∙ read.there) in
     let items : slice ≡ read.vector.items = own ∙ ap (λ (w : Vec ℕ Global). w.items) v_is in
     let id : slice_index_or slice test d ≡ slice_index_or (slice_index_or (items_of vectors) p []) test 0
     = ap (λ l. slice_index_or l test d) items ∙ get_or_default read.vector.items test d 0 read.within ∙ ap (λ l. slice_index_or l test 0) (sym (vector_there vectors p read.vector read.there)) in
-    grows ∙ ap₂ (λ l n. l ++ record { 0 = n } ∷ []) so_far id ∙ sym (map_push (id_at vectors test) (take at places) p)
-    ∙ ap (ids_at vectors test) (sym (take_next places at p less there))
+    grows ∙ ap₂ (λ l n. l ++ record { 0 = n } ∷ []) so_far id ∙ sym (map_push (id_at vectors test) (take at classes) p)
+    ∙ ap (ids_at vectors test) (sym (take_next classes at p less there))
+
+-- a class and a test of it are there
+id_read : (vectors : List (Vec ℕ Global)) (test at : ℕ) (classes : List ℕ) → Each (IsRead vectors test) classes → at < length classes → IsRead vectors test (slice_index_or classes at 0)
+id_read vectors test at classes reads less =
+    let p = slice_index_or classes at 0 in each_at (IsRead vectors test) classes at p reads less (get_or_default classes at 0 p less)
+
+pub always_read : (vectors : List (Vec ℕ Global)) (test at : ℕ) (classes : List ℕ) → Each (IsRead vectors test) classes → at < length classes
+    → None ≡ slice_get vectors (slice_index_or classes at 0) → ⊥
+always_read vectors test at classes reads less none =
+    let read = id_read vectors test at classes reads less in
+    let h : None ≡ Some read.vector = none ∙ read.there in
+    cc
+
+pub id_within : (vectors : List (Vec ℕ Global)) (test at : ℕ) (classes : List ℕ) (v : Vec ℕ Global) (slice : List ℕ) → Each (IsRead vectors test) classes → at < length classes
+    → Some v ≡ slice_get vectors (slice_index_or classes at 0) → slice ≡ v.items → test < length slice
+id_within vectors test at classes v slice reads less is own =
+    let read = id_read vectors test at classes reads less in
+    let v_is : v ≡ read.vector = some_is (is ∙ read.there) in
+    subst (λ l. test < length l) (ap (λ (w : Vec ℕ Global). w.items) (sym v_is) ∙ sym own) read.within

@@ -1,31 +1,33 @@
--- Items of a list that are the same, by the first place of each.
-use Rattle.std.specs.Prelude.{◌≡◌, ℕ, ◌<◌, ◌≤◌, List, length, if◌then◌else◌, Some, slice_get, MatchOption, Vec}
-use Rattle.std.specs.declared.alloc.Global.{Global}
-use Rattle.law_test.specs.Words.{same_items, Finds}
+-- The first place of each class in a list.
+use Rattle.std.specs.Prelude.{◌≡◌, ℕ, ◌<◌, ◌≤◌, ◌==◌, List, length, Option, if◌then◌else◌, Some, slice_get, MatchOption}
 
--- the first of all places that have the same vector as this one
-pub record IsFirstSame (vectors : List (List ℕ)) (at first : ℕ) : Type 0 where
-  pub vector : List ℕ
-  pub here : slice_get vectors at ≡ Some vector
-  pub there : slice_get vectors first ≡ Some vector
-  pub least : (k : ℕ) → slice_get vectors k ≡ Some vector → first ≤ k
+-- the first of all places that have the same class as this one
+pub record IsFirstSame (classes : List ℕ) (at first : ℕ) : Type 0 where
+  pub class : ℕ
+  pub here : slice_get classes at ≡ Some class
+  pub there : slice_get classes first ≡ Some class
+  pub least : (k : ℕ) → slice_get classes k ≡ Some class → first ≤ k
 
--- for each place the first one that has the same vector
-pub record AreFirsts (vectors : List (List ℕ)) (firsts : List ℕ) : Type 0 where
-  pub one_each : length firsts ≡ length vectors
-  pub each : (at first : ℕ) → slice_get firsts at ≡ Some first → IsFirstSame vectors at first
+-- for each place the first one that has the same class
+pub record AreFirsts (classes firsts : List ℕ) : Type 0 where
+  pub one_each : length firsts ≡ length classes
+  pub each : (at first : ℕ) → slice_get firsts at ≡ Some first → IsFirstSame classes at first
 
 -- A table of the first places
 
--- what is found for a vector before and after the vector at a place is noted: the first place that was found stays, and a
--- vector that wasn't found is found at this place
-abbrev pub IsNoted : Finds → Finds → Vec ℕ Global → ℕ → ℕ → Type 0
-IsNoted old new v at first = MatchOption (old v)
-    ((first ≡ at) × ((w : Vec ℕ Global) → new w ≡ (if same_items v w then Some at else old w)))
-    (λ place. (first ≡ place) × ((w : Vec ℕ Global) → new w ≡ old w))
+-- what is found for a class
+abbrev pub FindsFirst : Type 0
+FindsFirst = ℕ → Option ℕ
 
--- a vector that stands before this place is found at its first place, and no other is found
-abbrev pub KnowsBefore : List (List ℕ) → ℕ → Finds → Type 0
-KnowsBefore vectors at found = (v : Vec ℕ Global) → MatchOption (found v)
-    ((k : ℕ) → k < at → slice_get vectors k ≡ Some v.items → ⊥)
-    (λ first. (first < at) × (slice_get vectors first ≡ Some v.items) × ((k : ℕ) → slice_get vectors k ≡ Some v.items → first ≤ k))
+-- what is found for a class before and after the class at a place is noted: the first place that was found stays, and a
+-- class that wasn't found is found at this place
+abbrev pub IsNoted : FindsFirst → FindsFirst → ℕ → ℕ → ℕ → Type 0
+IsNoted old new class at first = MatchOption (old class)
+    ((first ≡ at) × ((w : ℕ) → new w ≡ (if class == w then Some at else old w)))
+    (λ place. (first ≡ place) × ((w : ℕ) → new w ≡ old w))
+
+-- a class that stands before this place is found at its first place, and no other is found
+abbrev pub KnowsBefore : List ℕ → ℕ → FindsFirst → Type 0
+KnowsBefore classes at found = (class : ℕ) → MatchOption (found class)
+    ((k : ℕ) → k < at → slice_get classes k ≡ Some class → ⊥)
+    (λ first. (first < at) × (slice_get classes first ≡ Some class) × ((k : ℕ) → slice_get classes k ≡ Some class → first ≤ k))

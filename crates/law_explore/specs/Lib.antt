@@ -7,4 +7,5 @@ pub mod Tells
 pub mod Refusals
 pub mod LawList
 pub mod Values
+pub mod Classes
 pub mod Named

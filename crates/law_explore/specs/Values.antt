@@ -9,9 +9,9 @@ use Rattle.law_sig.specs.declared.tree.Tree.{Tree}
 use Rattle.law_sig.specs.declared.tree.Tree.TheVariants.{App}
 use Rattle.law_sig.specs.declared.parts.Equation.{Equation}
 use Rattle.law_sig.specs.declared.parts.SigParts.{SigParts}
-use Rattle.law_value.specs.declared.bank.ValueId.{ValueId}
-use Rattle.law_value.specs.Values.{IsOf, tree_of}
-use Rattle.law_test.specs.Values.{IsValue, Both, tests_by, val_by}
+use Rattle.law_ids.specs.declared.ids.ValueId.{ValueId}
+use Rattle.law_ids.specs.Values.{IsOf, tree_of}
+use Rattle.law_testing.specs.Values.{IsValue, Both, tests_by, val_by}
 use Rattle.law_explore.specs.Refusals.{Refusal}
 use Rattle.law_explore.specs.Refusals.Refusal.{Over}
 
@@ -32,8 +32,11 @@ pub record IsMadeIn (value : Option Tree) (bank : List Tree) (v : ValueId) : Typ
 
 -- Vectors
 
+abbrev pub id_of : ℕ → ValueId
+id_of number = record { 0 = number }
+
 abbrev pub id_in : List ℕ → ℕ → ValueId
-id_in numbers at = record { 0 = slice_index_or numbers at 0 }
+id_in numbers at = id_of (slice_index_or numbers at 0)
 
 -- the ids of the term's values at the first so many tests
 pub record AreIds (parts : SigParts) (bank : List Tree) (t : Tree) (tests : ℕ) (ids : List ℕ) : Type 0 where
@@ -51,51 +54,52 @@ pub record IsVector (parts : SigParts) (bank : List Tree) (t : Tree) (vector : L
 abbrev pub items_of : List (Vec ℕ Global) → List (List ℕ)
 items_of vectors = map (λ v. v.items) vectors
 
--- the vectors of the terms
-abbrev pub AreVectors : SigParts → List Tree → List Tree → List (Vec ℕ Global) → Type 0
-AreVectors parts bank terms vectors = Both (IsVector parts bank) terms (items_of vectors)
+-- Classes of terms: each is known by the place of its vector
 
--- The arguments of a term, by their places in a list of terms
+-- the vector at the place is the term's
+pub record HasVector (parts : SigParts) (bank : List Tree) (vectors : List (Vec ℕ Global)) (t : Tree) (class : ℕ) : Type 0 where
+  pub vector : Vec ℕ Global
+  pub there : slice_get vectors class ≡ Some vector
+  pub is : IsVector parts bank t vector.items
+
+-- the arguments of the term have these classes
+abbrev pub HasArgVectors : SigParts → List Tree → List (Vec ℕ Global) → Tree → List ℕ → Type 0
+HasArgVectors parts bank vectors t classes = (f : SymId) (args : List Tree) → t ≡ App f args → Both (HasVector parts bank vectors) args classes
+
+-- Classes in a list of terms, the first of which have one each
 
 abbrev pub StandsAt : List Tree → Tree → ℕ → Type 0
 StandsAt terms t place = slice_get terms place ≡ Some t
 
--- they stand in the list
-abbrev pub HasArgsIn : List Tree → Tree → Type 0
-HasArgsIn terms t = (f : SymId) (args : List Tree) → t ≡ App f args → Each (λ s. In s terms) args
-
--- they stand at these places
-abbrev pub HasArgPlaces : List Tree → Tree → List ℕ → Type 0
-HasArgPlaces terms t places = (f : SymId) (args : List Tree) → t ≡ App f args → Both (StandsAt terms) args places
-
--- the place has the term's vector
-pub record HasVector (parts : SigParts) (bank : List Tree) (vectors : List (Vec ℕ Global)) (t : Tree) (place : ℕ) : Type 0 where
-  pub vector : Vec ℕ Global
-  pub there : slice_get vectors place ≡ Some vector
-  pub is : IsVector parts bank t vector.items
-
--- the term stands in the list, and each place where it does has its vector
-pub record IsKnown (parts : SigParts) (bank terms : List Tree) (vectors : List (Vec ℕ Global)) (t : Tree) : Type 0 where
+-- the term stands in the list, where terms have a class
+pub record IsPlaced (terms : List Tree) (classes : List ℕ) (t : Tree) : Type 0 where
   pub there : In t terms
-  pub has : (place : ℕ) → StandsAt terms t place → HasVector parts bank vectors t place
+  pub within : (place : ℕ) → StandsAt terms t place → place < length classes
 
--- the arguments of the term are known
-abbrev pub HasKnownArgs : SigParts → List Tree → List Tree → List (Vec ℕ Global) → Tree → Type 0
-HasKnownArgs parts bank terms vectors t = (f : SymId) (args : List Tree) → t ≡ App f args → Each (IsKnown parts bank terms vectors) args
+-- the class at a place of the term
+pub record HasClass (terms : List Tree) (classes : List ℕ) (t : Tree) (class : ℕ) : Type 0 where
+  pub place : ℕ
+  pub stands : StandsAt terms t place
+  pub is : slice_get classes place ≡ Some class
 
--- these places have their vectors
-abbrev pub HasArgVectors : SigParts → List Tree → List (Vec ℕ Global) → Tree → List ℕ → Type 0
-HasArgVectors parts bank vectors t places = (f : SymId) (args : List Tree) → t ≡ App f args → Both (HasVector parts bank vectors) args places
+-- the same for the arguments of a term
+abbrev pub AreArgsPlaced : List Tree → List ℕ → Tree → Type 0
+AreArgsPlaced terms classes t = (f : SymId) (args : List Tree) → t ≡ App f args → Each (IsPlaced terms classes) args
 
--- the ids at these places at a test
+abbrev pub HasArgClasses : List Tree → List ℕ → Tree → List ℕ → Type 0
+HasArgClasses terms classes t found = (f : SymId) (args : List Tree) → t ≡ App f args → Both (HasClass terms classes) args found
+
+-- Values of classes
+
+-- the ids of these classes at a test
 abbrev pub id_at : List (Vec ℕ Global) → ℕ → ℕ → ValueId
-id_at vectors test place = id_in (slice_index_or (items_of vectors) place []) test
+id_at vectors test class = id_in (slice_index_or (items_of vectors) class []) test
 
 abbrev pub ids_at : List (Vec ℕ Global) → ℕ → List ℕ → List ValueId
-ids_at vectors test places = map (id_at vectors test) places
+ids_at vectors test classes = map (id_at vectors test) classes
 
--- a place and a test that there are
-pub record IsRead (vectors : List (Vec ℕ Global)) (test place : ℕ) : Type 0 where
+-- a class and a test that there are
+pub record IsRead (vectors : List (Vec ℕ Global)) (test class : ℕ) : Type 0 where
   pub vector : Vec ℕ Global
-  pub there : slice_get vectors place ≡ Some vector
+  pub there : slice_get vectors class ≡ Some vector
   pub within : test < length vector.items

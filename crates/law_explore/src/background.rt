@@ -1,9 +1,9 @@
 ghost use Rattle.std.specs.Prelude.{◌+◌, ◌<◌, IfOk, IfErr, OnOk};
 ghost use Rattle.law_sig.specs.Tests.{Agrees};
-ghost use Rattle.law_value.specs.Values.{Grows};
-ghost use Rattle.law_gen.specs.Draws.{pools_by};
+ghost use Rattle.law_ids.specs.Values.{Grows};
+ghost use Rattle.law_draws.specs.Draws.{pools_by};
 ghost use Rattle.law_sig.specs.Laws.{IsBackgroundTrue};
-ghost use Rattle.law_test.specs.Values.{ArePools, IsTestable, IsValue, tests_by};
+ghost use Rattle.law_testing.specs.Values.{ArePools, IsTestable, IsValue, tests_by};
 ghost use Rattle.law_explore.specs.Refusals.{Breaks, IsFirstAnswer, HasBrokenBackground, IsTold};
 ghost use Rattle.law_explore.specs.Values.{IsLacking, HoldsAt};
 
@@ -60,7 +60,7 @@ fn check_at(
     }
 }
 
-/// Whether an equation holds at every test.
+/// Whether an equation holds at every test. It is asked at the own tests of its variables alone.
 fn check_equation(
     tester: &Tester,
     bank: &mut ValueBank,
@@ -74,8 +74,12 @@ fn check_equation(
     ensures breaks { IfErr result (IsTold tester.now.sig.now (IsFirstAnswer (Breaks tester.now.sig.now (pools_by tester.now.sig.now) number equation.now) (tests_by tester.now.sig.now))) }
     ensures grows { Grows bank.old bank.new }
 {
-    for test in 0..tester.tests() {
+    let own = tester.own_tests(&equation.left, &equation.right)?;
+    let tests = tester.tests();
+    let mut test = 0;
+    while test < tests {
         check_at(tester, bank, number, equation, test)?;
+        test = own.next(test);
     }
     Ok(())
 }

@@ -2,6 +2,7 @@
 #![tactic(auto)]
 
 mod background;
+mod classes;
 mod explore;
 mod firsts;
 mod laws;
@@ -11,7 +12,6 @@ mod named;
 mod refusal;
 mod rows;
 mod schemas;
-mod vectors;
 
 pub use explore::universe;
 pub use firsts::first_same;

@@ -1,20 +1,20 @@
 ghost use Rattle.std.specs.Prelude.{◌≤◌, IfOk, IfErr};
 ghost use Rattle.law_sig.specs.Tests.{assignments};
-ghost use Rattle.law_value.specs.Values.{Grows};
-ghost use Rattle.law_gen.specs.Draws.{pools_by};
+ghost use Rattle.law_ids.specs.Values.{Grows};
+ghost use Rattle.law_draws.specs.Draws.{pools_by};
 ghost use Rattle.law_lines.specs.Signature.{IsRawSig};
-ghost use Rattle.law_test.specs.Values.{ArePools};
+ghost use Rattle.law_testing.specs.Values.{ArePools};
 ghost use Rattle.law_explore.specs.LawList.{AreLaws, IsLawListOf, OneRefusal, NoneWithin};
 ghost use Rattle.law_explore.specs.Refusals.{IsRefusal, HasLargeValue, HasSmallValues, HasLackingTerm, IsTold};
 ghost use Rattle.law_explore.specs.Named.{IsNamedLawList};
 
 use super::background::check_background;
+use super::classes::classes_of;
 use super::explore::universe;
 use super::firsts::first_same;
 use super::laws::equations;
 use super::named::named_list;
 use super::refusal::ExploreErr;
-use super::vectors::vectors_of;
 use law_cert_text::LawList;
 use law_gen::GenErr;
 use law_lines::RawSig;
@@ -55,9 +55,9 @@ fn laws_of(tester: &Tester, bank: &mut ValueBank) -> Result<Seq<Equation>, Explo
     ensures grows { Grows bank.old bank.new }
 {
     let terms = universe(tester.alloc, tester.sig)?;
-    let vectors = vectors_of(tester, bank, &terms)?;
+    let classes = classes_of(tester, bank, &terms)?;
     bank.shared();
-    let firsts = first_same(tester.alloc, vectors)?;
+    let firsts = first_same(tester.alloc, classes)?;
     Ok(equations(tester.alloc, terms.as_slice(), firsts.as_slice())?)
 }
 

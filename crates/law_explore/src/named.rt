@@ -4,7 +4,7 @@ ghost use Rattle.law_sig.specs.Laws.{IsLaw};
 ghost use Rattle.law_lines.specs.Signature.{IsRawSig};
 ghost use Rattle.law_typing.specs.Naming.{named_term};
 ghost use Rattle.law_typing.specs.Typed.{HasFewSorts};
-ghost use Rattle.law_gen.specs.Draws.{pools_by};
+ghost use Rattle.law_draws.specs.Draws.{pools_by};
 ghost use Rattle.law_cert_text.specs.Certificates.{IsListText};
 ghost use Rattle.law_explore.specs.Refusals.{HasSmallValues};
 ghost use Rattle.law_explore.specs.Named.{HasFewLaws, named_laws, named_list, named_pools, named_values};

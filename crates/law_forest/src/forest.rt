@@ -1,10 +1,10 @@
 ghost use Rattle.std.specs.Prelude.{◌≡◌, ◌+◌, ◌<◌, ◌↔◌, ◌^◌, length, map, slice_get, Some, IfOk, IsTrue};
 ghost use Rattle.law_sig.specs.Lists.{In, Each, AreDistinct};
 ghost use Rattle.law_sig.specs.declared.tree.Tree.{Tree};
-ghost use Rattle.law_value.specs.Values.{Grows};
+ghost use Rattle.law_ids.specs.Values.{Grows};
 ghost use Rattle.law_cert_text.specs.declared.cert.SortTree.{SortTree};
 ghost use Rattle.law_named.specs.Named.{sort_named};
-ghost use Rattle.law_test.specs.Values.{ArePools, IsTestable};
+ghost use Rattle.law_testing.specs.Values.{ArePools, IsTestable};
 ghost use Rattle.law_checking.specs.Planted.{IsOfSort, IsOutside, IsBelow, IsNextSort, HaveKids, JudgesTrees};
 
 use super::groups::{grouped, is_of_sort};

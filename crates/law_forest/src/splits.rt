@@ -1,11 +1,11 @@
 ghost use Rattle.std.specs.Prelude.{◌≡◌, ◌<◌, [], ◌∷◌, IfOk, Some, None};
 ghost use Rattle.std.specs.Option.{option_copied};
 ghost use Rattle.law_sig.specs.Lists.{Each, numbered};
-ghost use Rattle.law_value.specs.Values.{Grows};
-ghost use Rattle.law_gen.specs.Draws.{pools_by};
+ghost use Rattle.law_ids.specs.Values.{Grows};
+ghost use Rattle.law_draws.specs.Draws.{pools_by};
 ghost use Rattle.law_valid.specs.declared.rule.Answer.TheVariants.{Yes};
 ghost use Rattle.law_valid.specs.Judged.{CutsTell};
-ghost use Rattle.law_test.specs.Values.{ArePools, IsTestable, tests_by};
+ghost use Rattle.law_testing.specs.Values.{ArePools, IsTestable, tests_by};
 ghost use Rattle.law_checking.specs.Splitting.{IsItem, AreItems, AreKids};
 
 use super::once::are_told;

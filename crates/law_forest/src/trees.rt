@@ -2,14 +2,14 @@ ghost use Rattle.std.specs.Prelude.{◌≡◌, ◌<◌, ◌↔◌, List, IfOk, I
 ghost use Rattle.indexmap.specs.IndexMap.{get};
 ghost use Rattle.law_sig.specs.Lists.{Each};
 ghost use Rattle.law_sig.specs.declared.tree.Tree.{Tree};
-ghost use Rattle.law_value.specs.Values.{Grows};
-ghost use Rattle.law_gen.specs.Draws.{pools_by};
+ghost use Rattle.law_ids.specs.Values.{Grows};
+ghost use Rattle.law_draws.specs.Draws.{pools_by};
 ghost use Rattle.law_cert_text.specs.declared.cert.TreeLine.{TreeLine};
 ghost use Rattle.law_cert_text.specs.declared.cert.TreeLine.TheVariants.{Class, Split as SplitLine};
 ghost use Rattle.law_valid.specs.declared.rule.Answer.TheVariants.{Yes};
 ghost use Rattle.law_valid.specs.Trees.{AreRising, IsTest, IsFlatTest};
 ghost use Rattle.law_valid.specs.Judged.{CutsTell};
-ghost use Rattle.law_test.specs.Values.{ArePools, IsTestable, tests_by};
+ghost use Rattle.law_testing.specs.Values.{ArePools, IsTestable, tests_by};
 ghost use Rattle.law_checking.specs.declared.part.Part.TheVariants.{Tests};
 ghost use Rattle.law_checking.specs.Lines.{part_of, parts_of, Held, held_at, held_in, judging_at, judgings};
 ghost use Rattle.law_checking.specs.Planted.{AreGroups, AreSchemasOf, AreTermsOf, JudgesTree, same_number};

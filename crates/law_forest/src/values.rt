@@ -1,7 +1,7 @@
 ghost use Rattle.std.specs.Prelude.{◌≡◌, ◌<◌, ◌↔◌, None, IfOk, IsTrue, MatchOption};
-ghost use Rattle.law_value.specs.Values.{Grows};
+ghost use Rattle.law_ids.specs.Values.{Grows};
 ghost use Rattle.law_valid.specs.declared.rule.Answer.TheVariants.{Yes};
-ghost use Rattle.law_test.specs.Values.{ArePools, IsTestable, IsValue, tests_by, val_by};
+ghost use Rattle.law_testing.specs.Values.{ArePools, IsTestable, IsValue, tests_by, val_by};
 
 use law_eval::EvalErr;
 use law_sig::{NoMemory, Tree};

@@ -1,5 +1,3 @@
-pub mod First
-pub mod ChoiceFacts
 pub mod Turns
-pub mod DrawFacts
+pub mod RoomFacts
 pub mod PoolFacts

@@ -4,9 +4,9 @@ use Rattle.rand_pcg.specs.Lcg.{Lcg}
 use Rattle.law_sig.specs.Lists.{Each, In, total}
 use Rattle.law_sig.specs.Lists.In.{here, there}
 use Rattle.law_sig.specs.declared.tree.Tree.{Tree}
-use Rattle.law_value.specs.Values.{Grows}
-use Rattle.law_pool.proofs.Reading.{Stays, grows_not, grows_on, list_keeps}
-use Rattle.law_gen.specs.Draws.{Drawn, in_turn}
+use Rattle.law_ids.specs.Values.{Grows}
+use Rattle.law_ids.proofs.Reading.{Stays, grows_not, grows_on, list_keeps}
+use Rattle.law_draws.specs.Draws.{Drawn, in_turn}
 
 -- those made so far, in a bank that has grown, and those that are left
 pub record Going {S X Y : Type 0} (H : List Tree → X → Type 0) (M : List Tree → X → Y) (draw : S → Lcg → Drawn Y) (whole : Drawn (List Y))

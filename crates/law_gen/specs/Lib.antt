@@ -1,4 +1,1 @@
-pub mod Draws
-pub mod Sizes
-pub mod Choices
 pub mod Made

@@ -7,10 +7,10 @@ use Rattle.law_sig.specs.declared.tree.SortId.{SortId}
 use Rattle.law_sig.specs.declared.tree.SymId.{SymId}
 use Rattle.law_sig.specs.declared.tree.Tree.{Tree}
 use Rattle.law_sig.specs.declared.parts.SigParts.{SigParts}
-use Rattle.law_value.specs.declared.bank.ValueId.{ValueId}
-use Rattle.law_value.specs.Values.{IsOf, tree_of}
-use Rattle.law_gen.specs.Draws.{Drawn}
-use Rattle.law_gen.specs.Choices.{table_of}
+use Rattle.law_ids.specs.declared.ids.ValueId.{ValueId}
+use Rattle.law_ids.specs.Values.{IsOf, tree_of}
+use Rattle.law_draws.specs.Draws.{Drawn}
+use Rattle.law_draws.specs.Choices.{table_of}
 use Rattle.law_gen.specs.declared.error.Stop.{Stop}
 use Rattle.law_gen.specs.declared.error.Stop.TheVariants as stop
 use Rattle.law_gen.specs.declared.error.GenErr.{GenErr}

@@ -4,8 +4,8 @@ ghost use Rattle.law_sig.specs.Lists.{Each};
 ghost use Rattle.law_sig.specs.Signature.{is_declared_sort};
 ghost use Rattle.law_sig.specs.WellFormed.{IsWellFormed};
 ghost use Rattle.law_sig.specs.declared.tree.SortId.{SortId};
-ghost use Rattle.law_gen.specs.Draws.{choices};
-ghost use Rattle.law_gen.specs.Choices.{level_of, table_of, is_some_choice};
+ghost use Rattle.law_draws.specs.Draws.{choices};
+ghost use Rattle.law_draws.specs.Choices.{level_of, table_of, is_some_choice};
 
 use law_sig::{NoMemory, Seq, Sig, SortId, SymId};
 use std::alloc::Global;

@@ -3,10 +3,10 @@ ghost use Rattle.law_sig.specs.Lists.{Each};
 ghost use Rattle.law_sig.specs.Trees.{node_count};
 ghost use Rattle.law_sig.specs.WellFormed.{IsDeclared, is_within_height};
 ghost use Rattle.law_sig.specs.declared.tree.SortId.{SortId};
-ghost use Rattle.law_value.specs.Values.{AreOf, trees_of, Grows};
-ghost use Rattle.law_pool.specs.Table.{AreHeld, pools_of};
-ghost use Rattle.law_gen.specs.Draws.{value_drawn, values_drawn, pool_drawn, pools_drawn, generator_of};
-ghost use Rattle.law_gen.specs.Sizes.{AreSmall, HasLarge, IsFirstIn, IsFirst};
+ghost use Rattle.law_ids.specs.Values.{AreOf, trees_of, Grows};
+ghost use Rattle.law_ids.specs.Table.{AreHeld, pools_of};
+ghost use Rattle.law_draws.specs.Draws.{value_drawn, values_drawn, pool_drawn, pools_drawn, generator_of};
+ghost use Rattle.law_draws.specs.Sizes.{AreSmall, HasLarge, IsFirstIn, IsFirst};
 ghost use Rattle.law_gen.specs.Made.{IsReady, IsMade, AreMade, WhereLarge, WhereTooLarge};
 
 use super::error::{GenErr, Stop};

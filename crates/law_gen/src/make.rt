@@ -1,10 +1,10 @@
 ghost use Rattle.std.specs.Prelude.{◌≡◌, ◌≤◌, IfOk, IfErr, OnOk, IsTrue};
 ghost use Rattle.law_sig.specs.Lists.{Each};
 ghost use Rattle.law_sig.specs.Tests.{assignments};
-ghost use Rattle.law_value.specs.Values.{Grows};
-ghost use Rattle.law_pool.specs.Table.{IsFor, AreHeld, pools_of};
-ghost use Rattle.law_gen.specs.Draws.{is_seeded, seeded_pools};
-ghost use Rattle.law_gen.specs.Sizes.{AreSmall, IsFirst};
+ghost use Rattle.law_ids.specs.Values.{Grows};
+ghost use Rattle.law_ids.specs.Table.{IsFor, AreHeld, pools_of};
+ghost use Rattle.law_draws.specs.Draws.{is_seeded, seeded_pools};
+ghost use Rattle.law_draws.specs.Sizes.{AreSmall, IsFirst};
 ghost use Rattle.law_gen.specs.Made.{WhereTooLarge};
 
 use super::choices::choices_up_to;

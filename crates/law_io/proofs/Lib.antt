@@ -1,4 +1,3 @@
--- What follows from the words of the contracts, for proofs of this crate and of those above.
+-- What follows from the words of the contracts, for proofs of this crate.
 pub mod CountFacts
 pub mod GrowsFacts
-pub mod LeftFacts

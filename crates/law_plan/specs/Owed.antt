@@ -8,7 +8,7 @@ use Rattle.law_sig.specs.Chains.{Replays}
 use Rattle.law_sig.specs.declared.chain.Step.{Step}
 use Rattle.law_sig.specs.declared.parts.Equation.{Equation}
 use Rattle.law_sig.specs.declared.parts.SigParts.{SigParts}
-use Rattle.law_gen.specs.Draws.{pools_by}
+use Rattle.law_draws.specs.Draws.{pools_by}
 use Rattle.law_valid.specs.declared.certificate.Entry.{Entry as Stating}
 use Rattle.law_valid.specs.declared.certificate.Entry.TheVariants as e
 use Rattle.law_valid.specs.declared.certificate.SortTree.{SortTree}

@@ -9,7 +9,7 @@ use Rattle.law_sig.specs.declared.chain.Step.{Step}
 use Rattle.law_sig.specs.declared.tree.Tree.{Tree}
 use Rattle.law_sig.specs.declared.parts.Equation.{Equation}
 use Rattle.law_sig.specs.declared.parts.SigParts.{SigParts}
-use Rattle.law_gen.specs.Draws.{pools_by}
+use Rattle.law_draws.specs.Draws.{pools_by}
 use Rattle.law_laws.specs.Derivation.{HasOneSort}
 use Rattle.law_rewriting.specs.Completion.{Kept, equations_of, Halt}
 use Rattle.law_rewriting.specs.Completion as completion

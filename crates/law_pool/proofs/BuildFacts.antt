@@ -6,8 +6,8 @@ use Rattle.law_sig.specs.WellFormed.{IsBetween, IsWellFormed}
 use Rattle.law_sig.specs.declared.parts.Settings.{Settings}
 use Rattle.law_sig.specs.declared.parts.SigParts.{SigParts}
 use Rattle.law_laws.proofs.ListFacts.{each_map}
-use Rattle.law_value.proofs.BankFacts.{get_more, take_all}
-use Rattle.law_pool.specs.Table.{Ids, HasShape, radices_by}
+use Rattle.law_ids.proofs.BankFacts.{get_more, take_all}
+use Rattle.law_ids.specs.Table.{Ids, HasShape, radices_by}
 use Rattle.law_pool.specs.Kept.{vars_kept, widths_kept, ways_before, AreKept}
 use Rattle.law_pool.specs.declared.pools.SortPlaces.{SortPlaces}
 use Rattle.law_pool.proofs.Ways.{take_behind, ways_in, IsFew, few_ways}

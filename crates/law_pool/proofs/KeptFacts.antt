@@ -4,9 +4,9 @@ use Rattle.law_sig.specs.Lists.{Each, product}
 use Rattle.law_sig.specs.Tests.{pool_value}
 use Rattle.law_sig.specs.declared.tree.SortId.{SortId}
 use Rattle.law_sig.specs.declared.tree.Tree.{Tree}
-use Rattle.law_value.specs.declared.bank.ValueId.{ValueId}
-use Rattle.law_value.specs.Values.{IsOf, AreOf, tree_of, trees_of}
-use Rattle.law_pool.specs.Table.{Ids, PoolTable, HasShape, AreHeld, pools_of, id_at, radices_by}
+use Rattle.law_ids.specs.declared.ids.ValueId.{ValueId}
+use Rattle.law_ids.specs.Values.{IsOf, AreOf, tree_of, trees_of}
+use Rattle.law_ids.specs.Table.{Ids, PoolTable, HasShape, AreHeld, pools_of, id_at, radices_by}
 use Rattle.law_pool.specs.Kept.{widths_kept, table_kept, AreKept, IsPlaces}
 use Rattle.law_pool.proofs.Ways.{IsFew, few_ways}
 use Rattle.law_pool.specs.declared.pools.SortPlaces.{SortPlaces}

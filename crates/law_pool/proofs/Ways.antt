@@ -5,7 +5,7 @@ use Rattle.law_sig.specs.Lists.{Each, total, product}
 use Rattle.law_sig.specs.Tests.{first_of, per_variable, digit_in}
 use Rattle.law_laws.proofs.Descents.{at_any_place}
 use Rattle.law_laws.proofs.Radix.{at_variable}
-use Rattle.law_pool.specs.Table.{radices_by}
+use Rattle.law_ids.specs.Table.{radices_by}
 use Rattle.law_pool.specs.Kept.{ways_before}
 
 -- Products

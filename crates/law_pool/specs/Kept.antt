@@ -1,7 +1,7 @@
 -- How pools are kept.
 use Rattle.std.specs.Prelude.{◌≡◌, ℕ, ◌<◌, ◌≤◌, ◌^◌, List, length, map, take, Some, slice_get, slice_index_or}
 use Rattle.law_sig.specs.Lists.{Each, total, product}
-use Rattle.law_pool.specs.Table.{Ids, PoolTable, HasShape, radices_by}
+use Rattle.law_ids.specs.Table.{Ids, PoolTable, HasShape, radices_by}
 use Rattle.law_pool.specs.declared.pools.SortPlaces.{SortPlaces}
 
 abbrev pub vars_kept : List SortPlaces → List ℕ

@@ -1,8 +1,8 @@
 ghost use Rattle.std.specs.Prelude.{◌≡◌, ◌≤◌, IfOk, IsTrue, length, map};
 ghost use Rattle.law_sig.specs.Lists.{Each};
 ghost use Rattle.law_sig.specs.Tests.{assignments};
-ghost use Rattle.law_value.specs.Values.{Grows, AreOf, trees_of, is_plain};
-ghost use Rattle.law_pool.specs.Table.{IsFor, AreHeld, pools_of, is_given, given_in};
+ghost use Rattle.law_ids.specs.Values.{Grows, AreOf, trees_of, is_plain};
+ghost use Rattle.law_ids.specs.Table.{IsFor, AreHeld, pools_of, is_given, given_in};
 
 use super::pools::Pools;
 use law_sig::{NoMemory, PoolRule, Seq, Sig, Tree};

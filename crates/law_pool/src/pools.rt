@@ -2,9 +2,9 @@ ghost use Rattle.std.specs.Prelude.{◌≡◌, ℕ, ◌+◌, ◌*◌, ◌<◌, �
 ghost use Rattle.law_sig.specs.Tests.{assignments, digit, test_count, IsFlat, pool_value, value_at};
 ghost use Rattle.law_sig.specs.declared.tree.Tree.{Tree};
 ghost use Rattle.law_sig.specs.declared.parts.SigParts.{SigParts};
-ghost use Rattle.law_value.specs.Values.{IsOf, tree_of};
+ghost use Rattle.law_ids.specs.Values.{IsOf, tree_of};
 ghost use Rattle.law_pool.specs.Kept.{IsPlaces};
-ghost use Rattle.law_pool.specs.Table.{PoolTable, IsFor, HasShape, AreHeld, pools_of, id_at, ReadsOnePlace, vars_of, width_of, tests_of};
+ghost use Rattle.law_ids.specs.Table.{PoolTable, IsFor, HasShape, AreHeld, pools_of, id_at, ReadsOnePlace, vars_of, width_of, tests_of};
 
 use super::written::write_pool;
 use law_sig::{NoMemory, Seq, Sig, SortId, Tree};
@@ -31,7 +31,7 @@ pub struct Pools {
 }
 
 impl Model for Pools {
-    ghost use Rattle.law_pool.specs.Table.{PoolTable};
+    ghost use Rattle.law_ids.specs.Table.{PoolTable};
     ghost use Rattle.law_pool.specs.Kept.{table_kept, AreKept};
 
     ghost Value = { PoolTable };

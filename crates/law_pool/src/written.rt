@@ -1,6 +1,6 @@
 ghost use Rattle.std.specs.Prelude.{◌≡◌, map, IfOk};
 ghost use Rattle.law_sig.specs.Lists.{Each};
-ghost use Rattle.law_value.specs.Values.{AreOf, trees_of};
+ghost use Rattle.law_ids.specs.Values.{AreOf, trees_of};
 
 use law_sig::{NoMemory, Seq, Tree};
 use law_value::{ValueBank, ValueId};

@@ -7,8 +7,8 @@ use Rattle.law_sig.specs.declared.tree.Tree.{Tree}
 use Rattle.law_sig.specs.declared.parts.PoolRule.TheVariants as rule
 use Rattle.law_sig.specs.declared.parts.SigParts.{SigParts}
 use Rattle.law_laws.proofs.ListFacts.{each_map}
-use Rattle.law_gen.specs.Draws.{pools_from, pools_by}
-use Rattle.law_gen.specs.Sizes.{AreSmall}
+use Rattle.law_draws.specs.Draws.{pools_from, pools_by}
+use Rattle.law_draws.specs.Sizes.{AreSmall}
 
 pool_small : (parts : SigParts) (n : ℕ) (pool : List (List Tree)) → IsPoolFrom parts n pool → Each AreSmall pool
 pool_small parts n [] h = tt

@@ -1,11 +1,11 @@
 ghost use Rattle.std.specs.Prelude.{◌≤◌, IfOk, IfErr, OnOk};
 ghost use Rattle.law_sig.specs.Lists.{Each};
 ghost use Rattle.law_sig.specs.Tests.{assignments};
-ghost use Rattle.law_value.specs.Values.{Grows};
-ghost use Rattle.law_gen.specs.Draws.{pools_by};
+ghost use Rattle.law_ids.specs.Values.{Grows};
+ghost use Rattle.law_draws.specs.Draws.{pools_by};
 ghost use Rattle.law_gen.specs.Made.{WhereTooLarge};
-ghost use Rattle.law_gen.specs.Sizes.{AreSmall, IsFirst};
-ghost use Rattle.law_test.specs.Values.{ArePools};
+ghost use Rattle.law_draws.specs.Sizes.{AreSmall, IsFirst};
+ghost use Rattle.law_testing.specs.Values.{ArePools};
 
 use law_gen::{GenErr, make_pools};
 use law_pool::{Pools, given_pools};

@@ -1,10 +1,10 @@
 ghost use Rattle.std.specs.Prelude.{◌≡◌, ◌<◌, ◌^◌, List, None, IfOk, IsErrOf};
 ghost use Rattle.law_sig.specs.declared.tree.Tree.{Tree};
-ghost use Rattle.law_value.specs.Values.{Grows};
+ghost use Rattle.law_ids.specs.Values.{Grows};
 ghost use Rattle.law_own.specs.Own.{vars_of};
-ghost use Rattle.law_pool.specs.Table.{IsFor};
+ghost use Rattle.law_ids.specs.Table.{IsFor};
 ghost use Rattle.law_pool.specs.Wheels.{IsTrackOf};
-ghost use Rattle.law_test.specs.Values.{ArePools, IsTestable, IsValue, tests_by, val_by};
+ghost use Rattle.law_testing.specs.Values.{ArePools, IsTestable, IsValue, tests_by, val_by};
 
 use law_eval::{EvalErr, apply};
 use law_pool::{OwnTests, Pools};

@@ -4,7 +4,7 @@ use Rattle.std.proofs.lemmas.Bool.Decides.{nat_tests}
 use Rattle.std.specs.Prelude.{IfErr, OnErr}
 use Rattle.std.specs.Result.{IsErrAnd}
 use Rattle.law_splits.specs.Agree.{AgreeAt, Agree}
-use Rattle.law_value.specs.declared.bank.ValueId.{ValueId}
+use Rattle.law_ids.specs.declared.ids.ValueId.{ValueId}
 use Rattle.law_tree.specs.Asking.{IsOneOf, MayStays, MeaningStays, SaysNothingNew}
 use Rattle.law_tree.specs.Comparing.{AgreeBelow, IsAskedUpTo}
 use Rattle.law_tree.proofs.ListFacts.{before_or, in_place}

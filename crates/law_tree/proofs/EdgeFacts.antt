@@ -5,7 +5,7 @@ use Rattle.std.proofs.lemmas.Bool.Decides.{eqb_tells}
 use Rattle.law_sig.specs.Lists.{In, Each, Rising}
 use Rattle.law_sig.specs.Lists.In.{here, there}
 use Rattle.law_laws.proofs.ListFacts.{in_none, in_rest, each_map}
-use Rattle.law_value.specs.declared.bank.ValueId.{ValueId}
+use Rattle.law_ids.specs.declared.ids.ValueId.{ValueId}
 use Rattle.law_tree.specs.declared.nodes.Edge.{Edge}
 use Rattle.law_tree.specs.Nodes.{edge_to}
 use Rattle.law_tree.specs.Listing.{kept, children_from}

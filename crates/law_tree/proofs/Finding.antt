@@ -6,7 +6,7 @@ use Rattle.law_sig.specs.Lists.In.{here}
 use Rattle.law_laws.proofs.ListFacts.{in_none, in_rest, in_left, in_right}
 use Rattle.law_splits.specs.Agree.{Agree, Differ}
 use Rattle.law_splits.proofs.Fixed.{not_agree}
-use Rattle.law_value.specs.declared.bank.ValueId.{ValueId}
+use Rattle.law_ids.specs.declared.ids.ValueId.{ValueId}
 use Rattle.law_tree.specs.declared.compare.Difference.{Difference}
 use Rattle.law_tree.specs.declared.look.End.{End}
 use Rattle.law_tree.specs.declared.look.End.TheVariants as end

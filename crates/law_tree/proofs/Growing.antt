@@ -10,7 +10,7 @@ use Rattle.law_splits.specs.Placing.PlacedAmong.{at_last, at_kid, past_kid}
 use Rattle.law_sig.specs.Lists.{In, Each, Rising}
 use Rattle.law_sig.specs.Lists.In.{here as at_first, there}
 use Rattle.law_laws.proofs.ListFacts.{in_none, in_rest, each_of, of_each}
-use Rattle.law_value.specs.declared.bank.ValueId.{ValueId}
+use Rattle.law_ids.specs.declared.ids.ValueId.{ValueId}
 use Rattle.law_tree.specs.declared.nodes.Node.{Node}
 use Rattle.law_tree.specs.declared.nodes.Spot.{Spot}
 use Rattle.law_tree.specs.declared.nodes.Spot.TheVariants as spot

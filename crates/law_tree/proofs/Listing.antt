@@ -10,7 +10,7 @@ use Rattle.law_laws.proofs.ListFacts.{each_of}
 use Rattle.law_splits.specs.Splits.{Split, Kids, lines, lines_in, by_child}
 use Rattle.law_splits.specs.Splits.Split.{leaf}
 use Rattle.law_splits.proofs.Told.{each_joined}
-use Rattle.law_value.specs.declared.bank.ValueId.{ValueId}
+use Rattle.law_ids.specs.declared.ids.ValueId.{ValueId}
 use Rattle.law_tree.specs.declared.nodes.Edge.{Edge}
 use Rattle.law_tree.specs.declared.nodes.Node.{Node}
 use Rattle.law_tree.specs.declared.nodes.Spot.{Spot}

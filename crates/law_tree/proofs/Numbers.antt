@@ -6,7 +6,7 @@ use Rattle.law_sig.specs.Lists.{In}
 use Rattle.law_sig.specs.Lists.In.{here}
 use Rattle.law_laws.proofs.ListFacts.{in_none, in_rest, in_left, in_right, in_split}
 use Rattle.law_splits.specs.Agree.{HasOneValue, Differ}
-use Rattle.law_value.specs.declared.bank.ValueId.{ValueId}
+use Rattle.law_ids.specs.declared.ids.ValueId.{ValueId}
 use Rattle.law_tree.specs.Grown.{numbered, numbers_below}
 use Rattle.law_tree.proofs.ListFacts.{same_or, one_item, get_left, get_right}
 

@@ -14,7 +14,7 @@ use Rattle.law_splits.specs.Placing.LeadsTo.{start, down}
 use Rattle.law_splits.proofs.Led.{led, cut_of, leaf_exact, new_child_exact, leads_stay}
 use Rattle.law_splits.proofs.Growing.{placing_grows}
 use Rattle.law_splits.proofs.Renaming.{tree_stays}
-use Rattle.law_value.specs.declared.bank.ValueId.{ValueId}
+use Rattle.law_ids.specs.declared.ids.ValueId.{ValueId}
 use Rattle.law_tree.specs.declared.compare.Difference.{Difference}
 use Rattle.law_tree.specs.declared.nodes.Node.{Node}
 use Rattle.law_tree.specs.declared.nodes.Spot.{Spot}

@@ -10,7 +10,7 @@ use Rattle.law_splits.specs.Placing.{IsKid}
 use Rattle.law_splits.specs.Placing.IsKid.{first, later}
 use Rattle.law_sig.specs.Lists.{In}
 use Rattle.law_laws.proofs.ListFacts.{in_none, in_rest}
-use Rattle.law_value.specs.declared.bank.ValueId.{ValueId}
+use Rattle.law_ids.specs.declared.ids.ValueId.{ValueId}
 use Rattle.law_tree.specs.declared.nodes.Edge.{Edge}
 use Rattle.law_tree.specs.declared.nodes.Node.{Node}
 use Rattle.law_tree.specs.declared.nodes.Spot.{Spot}

@@ -1,7 +1,7 @@
 -- What may be asked, what is meant, and where a fault comes from.
 use Rattle.std.specs.Prelude.{ℕ, ◌+◌, ◌-◌, ◌^◌, ◌<◌, ◌≤◌, min, List, slice_index}
 use Rattle.law_sig.specs.Lists.{In}
-use Rattle.law_value.specs.declared.bank.ValueId.{ValueId}
+use Rattle.law_ids.specs.declared.ids.ValueId.{ValueId}
 
 -- what may be asked stays
 abbrev pub MayStays : {I : Type 0} → (I → ℕ → Type 0) → (I → ℕ → Type 0) → Type 0

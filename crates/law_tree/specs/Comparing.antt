@@ -1,7 +1,7 @@
 -- What the comparison of two items finds, and how often it asks.
 use Rattle.std.specs.Prelude.{ℕ, ◌≡◌, ◌≢◌, ◌<◌, ◌≤◌, ◌+◌, ◌*◌, List, length, slice_index, Option, Some, None}
 use Rattle.law_splits.specs.Agree.{AgreeAt, Agree}
-use Rattle.law_value.specs.declared.bank.ValueId.{ValueId}
+use Rattle.law_ids.specs.declared.ids.ValueId.{ValueId}
 use Rattle.law_tree.specs.declared.compare.Difference.{Difference}
 use Rattle.law_tree.specs.Asking.{IsOneOf}
 

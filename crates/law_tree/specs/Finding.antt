@@ -4,7 +4,7 @@ use Rattle.law_splits.specs.Splits.{Split, Kids}
 use Rattle.law_splits.specs.Splits.Split.{leaf, split}
 use Rattle.law_splits.specs.Agree.{Agree, Differ}
 use Rattle.law_splits.specs.Placing.{LeadsTo}
-use Rattle.law_value.specs.declared.bank.ValueId.{ValueId}
+use Rattle.law_ids.specs.declared.ids.ValueId.{ValueId}
 use Rattle.law_tree.specs.declared.tree.Placed.{Placed}
 use Rattle.law_tree.specs.declared.tree.Placed.TheVariants.{Fresh, Same}
 use Rattle.law_tree.specs.declared.tree.PlaceErr.{PlaceErr}

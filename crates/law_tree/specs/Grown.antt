@@ -1,7 +1,7 @@
 -- A split tree, as contracts see it.
 use Rattle.std.specs.Prelude.{ℕ, zero, suc, ◌≡◌, List, [], ◌∷◌, ◌++◌, length, slice_get, Some}
 use Rattle.law_splits.specs.Rule.{IsTreeOf}
-use Rattle.law_value.specs.declared.bank.ValueId.{ValueId}
+use Rattle.law_ids.specs.declared.ids.ValueId.{ValueId}
 use Rattle.law_tree.specs.declared.nodes.Node.{Node}
 use Rattle.law_tree.specs.Asking.{IsOneOf}
 use Rattle.law_tree.specs.Nodes.{tree_of}

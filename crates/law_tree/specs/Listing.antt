@@ -1,7 +1,7 @@
 -- The lines of a tree, in prefix order, and how they are come by.
 use Rattle.std.specs.Prelude.{ℕ, suc, ◌≡◌, ◌<◌, List, [], ◌∷◌, length, reverse, slice_get, Option, Some, None}
 use Rattle.law_splits.specs.Splits.{Split, lines}
-use Rattle.law_value.specs.declared.bank.ValueId.{ValueId}
+use Rattle.law_ids.specs.declared.ids.ValueId.{ValueId}
 use Rattle.law_tree.specs.declared.nodes.Edge.{Edge}
 use Rattle.law_tree.specs.declared.nodes.Node.{Node}
 use Rattle.law_tree.specs.declared.nodes.Spot.{Spot}

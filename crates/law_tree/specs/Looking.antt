@@ -1,7 +1,7 @@
 -- What a walk and a look find, what a tree keeps about its children, and how nodes grow.
 use Rattle.std.specs.Prelude.{ℕ, ◌≡◌, ◌≤◌, ◌<◌, ◌+◌, ◌↔◌, List, [], ◌∷◌, ◌++◌, slice_get, slice_set, Option, Some, None, Bool, ◌&&◌, nat_eq}
 use Rattle.law_sig.specs.Lists.{Rising}
-use Rattle.law_value.specs.declared.bank.ValueId.{ValueId}
+use Rattle.law_ids.specs.declared.ids.ValueId.{ValueId}
 use Rattle.law_tree.specs.declared.compare.Difference.{Difference}
 use Rattle.law_tree.specs.declared.nodes.Node.{Node}
 use Rattle.law_tree.specs.declared.nodes.Edge.{Edge}

@@ -4,7 +4,7 @@ use Rattle.std.specs.Prelude.{ℕ, suc, ◌≡◌, ◌<◌, ◌==◌, if◌then�
 use Rattle.law_splits.specs.Splits.{Split, Kids}
 use Rattle.law_splits.specs.Splits.Split.{leaf, split}
 use Rattle.law_splits.specs.Splits.Kids.{none, kid}
-use Rattle.law_value.specs.declared.bank.ValueId.{ValueId}
+use Rattle.law_ids.specs.declared.ids.ValueId.{ValueId}
 use Rattle.law_tree.specs.declared.nodes.Edge.{Edge}
 use Rattle.law_tree.specs.declared.nodes.Node.{Node}
 use Rattle.law_tree.specs.declared.nodes.Spot.{Spot}

@@ -1,5 +1,5 @@
 ghost use Rattle.std.specs.Prelude.{◌≡◌, ◌+◌, ◌<◌, ◌≤◌, ℕ, List, length, IfOk, IfErr};
-ghost use Rattle.law_value.specs.declared.bank.ValueId.{ValueId};
+ghost use Rattle.law_ids.specs.declared.ids.ValueId.{ValueId};
 ghost use Rattle.law_tree.specs.Asking.{Rose, SaysNothingNew};
 
 use law_value::ValueId;

@@ -9,7 +9,7 @@ use Rattle.law_sig.specs.declared.tree.SortId.{SortId}
 use Rattle.law_sig.specs.declared.tree.Tree.{Tree}
 use Rattle.law_sig.specs.declared.parts.Equation.{Equation}
 use Rattle.law_sig.specs.declared.parts.SigParts.{SigParts}
-use Rattle.law_gen.specs.Draws.{pools_by}
+use Rattle.law_draws.specs.Draws.{pools_by}
 use Rattle.law_valid.specs.declared.certificate.Branch.{Branch}
 use Rattle.law_valid.specs.declared.certificate.Branch.TheOpen.{Branch-F}
 use Rattle.law_valid.specs.declared.certificate.Branch.TheOpen as b

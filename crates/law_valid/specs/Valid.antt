@@ -11,8 +11,8 @@ use Rattle.law_sig.specs.declared.tree.SortId.{SortId}
 use Rattle.law_sig.specs.declared.parts.Equation.{Equation}
 use Rattle.law_sig.specs.declared.parts.SigParts.{SigParts}
 use Rattle.law_sig.specs.General.{IsNumbered}
-use Rattle.law_gen.specs.Draws.{pools_by}
-use Rattle.law_gen.specs.Sizes.{AreSmall}
+use Rattle.law_draws.specs.Draws.{pools_by}
+use Rattle.law_draws.specs.Sizes.{AreSmall}
 use Rattle.law_valid.specs.declared.certificate.Entry.{Entry}
 use Rattle.law_valid.specs.declared.certificate.Entry.TheVariants as e
 use Rattle.law_valid.specs.declared.certificate.SortTree.{SortTree}

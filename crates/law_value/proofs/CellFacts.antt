@@ -12,11 +12,11 @@ use Rattle.law_sig.specs.Trees.{node_count}
 use Rattle.law_sig.specs.declared.tree.SymId.{SymId}
 use Rattle.law_sig.specs.declared.tree.Tree.{Tree}
 use Rattle.law_sig.specs.declared.tree.Tree.TheVariants.{App}
-use Rattle.law_value.specs.declared.bank.ValueId.{ValueId}
+use Rattle.law_ids.specs.declared.ids.ValueId.{ValueId}
 use Rattle.law_value.specs.declared.bank.Cell.{Cell}
-use Rattle.law_value.specs.Values.{IsOf, AreOf, no_tree, tree_of, trees_of, head_of, fields_of, IsShared, Grows, Adds}
+use Rattle.law_ids.specs.Values.{IsOf, AreOf, no_tree, tree_of, trees_of, head_of, fields_of, IsShared, Grows, Adds}
 use Rattle.law_value.specs.Cells.{tree_in, trees_after, trees, IsCell, AreCells}
-use Rattle.law_value.proofs.BankFacts.{tree_stays, trees_stay, earlier_held, ids_shared, get_stays, get_last, get_more, tree_at, App-same, head_of-App, fields_of-App}
+use Rattle.law_ids.proofs.BankFacts.{tree_stays, trees_stay, earlier_held, ids_shared, get_stays, get_last, get_more, tree_at, App-same, head_of-App, fields_of-App}
 
 -- the trees of one cell more
 pub trees_after-push : (bank : List Tree) (cells : List Cell) (cell : Cell) → trees_after bank (cells ++ cell ∷ []) ≡ trees_after bank cells ++ tree_in (trees_after bank cells) cell ∷ []

@@ -1,5 +1,3 @@
-pub mod BankFacts
 pub mod CellFacts
 pub mod ReadFacts
-pub mod Tops
 pub mod WriteFacts

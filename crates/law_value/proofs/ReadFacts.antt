@@ -1,20 +1,19 @@
 -- What is known while the fields of a tree are read.
-use Rattle.std.proofs.Common.{Option, slice_get, None, Some, ◌≡◌, ℕ, zero, suc, ◌+◌, ◌<◌, ◌^◌, List, [], ◌∷◌, ◌++◌, length, map, take, Bool, true, false, ◌&&◌, nat_lt, slice_index_or, refl, sym, ap, subst, ◌∙◌, arith, append_assoc}
+use Rattle.std.proofs.Common.{Option, slice_get, None, Some, ◌≡◌, ℕ, zero, suc, ◌+◌, ◌<◌, ◌^◌, List, [], ◌∷◌, ◌++◌, length, map, take, Bool, true, false, ◌&&◌, nat_lt, slice_index_or, refl, sym, ap, subst, ◌∙◌, arith}
 use Rattle.std.proofs.lemmas.Option.{slice_get_read}
 use Rattle.std.proofs.lemmas.Bool.{ltb-true, lt-ltb}
 use Rattle.std.specs.List.{list_all}
 use Rattle.law_sig.specs.Lists.{Each}
 use Rattle.law_sig.specs.declared.tree.SymId.{SymId}
 use Rattle.law_sig.specs.declared.tree.Tree.{Tree}
-use Rattle.law_sig.specs.declared.tree.Tree.TheOpen as o
-use Rattle.law_sig.specs.declared.tree.Tree.TheFolds.{fold-roll-Tree}
-use Rattle.law_sig.specs.declared.tree.Tree.TheVariants.{App, rolls-App}
-use Rattle.law_value.specs.declared.bank.ValueId.{ValueId}
+use Rattle.law_sig.specs.declared.tree.Tree.TheVariants.{App}
+use Rattle.law_ids.specs.declared.ids.ValueId.{ValueId}
 use Rattle.law_value.specs.declared.bank.Cell.{Cell}
 use Rattle.law_value.specs.Cells.{IsCell, AreCells}
 use Rattle.law_value.proofs.CellFacts.{cell_tree}
-use Rattle.law_value.specs.Values.{IsOf, AreOf, tree_of, trees_of, IsShared, Grows, plain_step, is_plain}
-use Rattle.law_value.proofs.BankFacts.{trees_stay, ids_stay, held_more, trees_more, take_next}
+use Rattle.law_ids.specs.Values.{IsOf, AreOf, tree_of, trees_of, IsShared, Grows, is_plain}
+use Rattle.law_ids.proofs.BankFacts.{trees_stay, ids_stay, held_more, trees_more, take_next, plain-App, length_map}
+use Rattle.law_ids.proofs.Reading.{grows_on}
 
 -- the ids that were read so far, and their trees, in a bank that has grown
 pub record IsRead (old bank : List Tree) (ids : List ValueId) (done : List Tree) : Type 0 where
@@ -23,19 +22,12 @@ pub record IsRead (old bank : List Tree) (ids : List ValueId) (done : List Tree)
   pub grows : Grows old bank
   pub shared : IsShared bank
 
-pub plain-App : (f : SymId) (args : List Tree) → is_plain (App f args) ≡ (nat_lt (length (map is_plain args)) (2 ^ 32) && list_all (λ b. b) (map is_plain args))
-plain-App f args = ap is_plain (sym (rolls-App f args)) ∙ fold-roll-Tree Bool plain_step (o.App f args)
-
 is_less : (n m : ℕ) → nat_lt n m ≡ true → n < m
 is_less n m e = ltb-true n m e
 
 both_true : (a b : Bool) → (a && b) ≡ true → (a ≡ true) × (b ≡ true)
 both_true true b e = (refl, e)
 both_true false b e = cc
-
-pub length_map : {A B : Type 0} (f : A → B) (xs : List A) → length (map f xs) ≡ length xs
-length_map f [] = refl
-length_map f (x ∷ xs) = ap suc (length_map f xs)
 
 -- a plain application has few arguments, and each is plain
 pub plain_few : (t : Tree) (f : SymId) (args : List Tree) → t ≡ App f args → is_plain t ≡ true → length args < 2 ^ 32
@@ -53,10 +45,6 @@ pub plain_at : (t : Tree) (f : SymId) (args : List Tree) (at : ℕ) (x : Tree) �
 plain_at t f args at x e plain within is =
     let both = both_true (nat_lt (length (map is_plain args)) (2 ^ 32)) (list_all (λ b. b) (map is_plain args)) (sym (plain-App f args) ∙ ap is_plain (sym e) ∙ plain) in
     ap is_plain is ∙ all_at args at x both.1 within
-
--- growth goes on
-pub grows_on : (a b c : List Tree) → Grows a b → Grows b c → Grows a c
-grows_on a b c g h = (g.0 ++ h.0, h.1 ∙ ap (λ l. l ++ h.0) g.1 ∙ append_assoc a g.0 h.0)
 
 -- the next one is read
 pub read_next : (old bank new : List Tree) (ids more : List ValueId) (args : List Tree) (at : ℕ) (v : ValueId) (x : Tree) → IsRead old bank ids (take at args)

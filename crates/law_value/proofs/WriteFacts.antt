@@ -6,14 +6,14 @@ use Rattle.law_sig.specs.declared.tree.SymId.{SymId}
 use Rattle.law_sig.specs.declared.tree.Tree.{Tree}
 use Rattle.law_sig.specs.declared.tree.Tree.TheVariants.{App}
 use Rattle.law_value.specs.declared.bank.Part.{Part}
-use Rattle.law_value.specs.Tops.{tops}
-use Rattle.law_value.specs.Values.{IsOf, tree_of, head_of, fields_of}
+use Rattle.law_ids.specs.Tops.{tops}
+use Rattle.law_ids.specs.Values.{IsOf, tree_of, head_of, fields_of}
 use Rattle.law_value.specs.Writing.{Piece, IsPartOf, completed, wholes_onto, steps_of, IsOpened, piece_of, pieces, IsAdvanced, IsWriting}
 use Rattle.law_value.specs.Writing.Piece.{whole, join}
 use Rattle.law_value.specs.declared.bank.Part.TheVariants as part
-use Rattle.law_value.specs.declared.bank.ValueId.{ValueId}
-use Rattle.law_value.proofs.Tops.{pushed, none_left}
-use Rattle.law_value.proofs.BankFacts.{App-of, node_count-App, take_next, take_all}
+use Rattle.law_ids.specs.declared.ids.ValueId.{ValueId}
+use Rattle.law_ids.proofs.Tops.{pushed, none_left}
+use Rattle.law_ids.proofs.BankFacts.{App-of, node_count-App, take_next, take_all}
 
 -- one tree more is to be written
 pub wholes-push : (trees : List Tree) (tree : Tree) (more : List Piece) → wholes_onto (trees ++ tree ∷ []) more ≡ whole tree ∷ wholes_onto trees more

@@ -4,9 +4,9 @@ use Rattle.law_sig.specs.Lists.{Each}
 use Rattle.law_sig.specs.Trees.{node_count}
 use Rattle.law_sig.specs.declared.tree.Tree.{Tree}
 use Rattle.law_sig.specs.declared.tree.Tree.TheVariants.{App}
-use Rattle.law_value.specs.declared.bank.ValueId.{ValueId}
+use Rattle.law_ids.specs.declared.ids.ValueId.{ValueId}
 use Rattle.law_value.specs.declared.bank.Cell.{Cell}
-use Rattle.law_value.specs.Values.{trees_of, IsShared}
+use Rattle.law_ids.specs.Values.{trees_of, IsShared}
 
 -- the tree of a cell, whose fields are ids of these trees
 abbrev pub tree_in : List Tree → Cell → Tree

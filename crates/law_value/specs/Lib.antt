@@ -1,4 +1,2 @@
-pub mod Values
 pub mod Cells
-pub mod Tops
 pub mod Writing

@@ -7,8 +7,8 @@ use Rattle.law_sig.specs.declared.tree.Tree.{Tree}
 use Rattle.law_sig.specs.declared.tree.Tree.TheVariants.{App}
 use Rattle.law_value.specs.declared.bank.Part.{Part}
 use Rattle.law_value.specs.declared.bank.Part.TheVariants as part
-use Rattle.law_value.specs.Tops.{tops}
-use Rattle.law_value.specs.Values.{IsOf, tree_of, head_of, fields_of}
+use Rattle.law_ids.specs.Tops.{tops}
+use Rattle.law_ids.specs.Values.{IsOf, tree_of, head_of, fields_of}
 
 -- a tree that is to be written, or a symbol that takes so many of the trees that are
 pub data Piece : Type 0 where

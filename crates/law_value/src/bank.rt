@@ -4,18 +4,15 @@ ghost use Rattle.law_sig.specs.Trees.{node_count};
 ghost use Rattle.law_sig.specs.declared.tree.Tree.{Tree};
 ghost use Rattle.law_sig.specs.declared.tree.Tree.TheVariants.{App};
 ghost use Rattle.law_value.specs.Cells.{IsCell};
-ghost use Rattle.law_value.specs.Tops.{tops};
+ghost use Rattle.law_ids.specs.Tops.{tops};
 ghost use Rattle.law_value.specs.Writing.{piece_of, pieces, IsPartOf, IsOpened, IsAdvanced};
-ghost use Rattle.law_value.specs.Values.{IsOf, AreOf, tree_of, trees_of, head_of, fields_of, IsShared, Grows, Adds, is_plain};
+ghost use Rattle.law_ids.specs.Values.{IsOf, AreOf, tree_of, trees_of, head_of, fields_of, IsShared, Grows, Adds, is_plain};
 
 use indexmap::IndexSet;
+use law_ids::ValueId;
 use law_sig::{NoMemory, Seq, SymId, Tree};
 use std::alloc::Global;
 use std::marker::Model;
-
-/// A value of a bank, by the order in which the bank's values were made, from 0.
-#[derive(Clone, Copy, Debug, PartialEq, Eq, PartialOrd, Ord, Hash)]
-pub struct ValueId(pub u64);
 
 /// A value by its constructor and its fields. The number of its nodes, which these determine, is kept beside them;
 /// it is 2^64 - 1 where it is that or more.

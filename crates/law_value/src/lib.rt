@@ -3,4 +3,5 @@
 
 mod bank;
 
-pub use bank::{ValueBank, ValueId};
+pub use bank::ValueBank;
+pub use law_ids::ValueId;

@@ -2,7 +2,7 @@ use Rattle.std.proofs.Common.{◌≤◌, List}
 use Rattle.law_sig.specs.declared.tree.Tree.{Tree}
 use Rattle.law_sig.specs.Schemas.{IsConsidered}
 use Rattle.law_agenda.specs.Candidates.{IsStock}
-use Rattle.law_agenda.specs.Stages.{FromStage}
+use Rattle.law_listing.specs.Stages.{FromStage}
 use Rattle.law_agenda.proofs.candidates.first_from_symbol.Given as goal
 
 abbrev pub invariant-loop-number : goal.invariant-loop-number

@@ -1,6 +1,6 @@
 use Rattle.std.proofs.Common.{length, ◌≤◌}
-use Rattle.law_agenda.specs.Rows.{AreFits}
-use Rattle.law_agenda.proofs.RowFacts.{BeginsFrom}
+use Rattle.law_listing.specs.Picks.{AreFits}
+use Rattle.law_listing.proofs.PickFacts.{BeginsFrom}
 use Rattle.law_agenda.proofs.rows.+first_from.Given as goal
 
 abbrev pub decreases-first_from : goal.decreases-first_from

@@ -1,6 +1,6 @@
 use Rattle.std.proofs.Common.{◌<◌, ◌∷◌, ◌++◌, [], length, slice_index_or, subst, sym, ◌∙◌, ap, arith}
-use Rattle.law_agenda.specs.Rows.{AreAllFits}
-use Rattle.law_agenda.proofs.RowFacts.{more_fits, sums_of, any_default}
+use Rattle.law_listing.specs.Picks.{AreAllFits}
+use Rattle.law_listing.proofs.PickFacts.{more_fits, sums_of, any_default}
 use Rattle.law_agenda.proofs.rows.+fits_of.Goals as goal
 
 pub returns : goal.returns

@@ -1,5 +1,5 @@
 use Rattle.std.proofs.Common.{◌≡◌, length, slice_index_or, true, false, ℕ}
-use Rattle.law_agenda.specs.Rows.{NoSum}
+use Rattle.law_listing.specs.Picks.{NoSum}
 use Rattle.law_agenda.proofs.rows.sums.Given as goal
 
 abbrev pub invariant-loop-total : goal.invariant-loop-total

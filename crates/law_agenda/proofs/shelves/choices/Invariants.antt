@@ -1,5 +1,5 @@
 use Rattle.std.proofs.Common.{◌≡◌, take}
-use Rattle.law_agenda.specs.Choices.{counts_of}
+use Rattle.law_listing.specs.Choices.{counts_of}
 use Rattle.law_agenda.specs.Shelves.{lists_for}
 use Rattle.law_agenda.proofs.shelves.choices.Given as goal
 

@@ -2,7 +2,7 @@ use Rattle.std.proofs.Common.{subst, refl}
 use Rattle.law_sig.specs.declared.tree.Tree.TheVariants.{Var}
 use Rattle.law_sig.specs.Schemas.{IsConsidered}
 use Rattle.law_agenda.specs.Candidates.{FirstOf}
-use Rattle.law_agenda.specs.Stages.{Onward}
+use Rattle.law_listing.specs.Stages.{Onward}
 use Rattle.law_agenda.specs.Stores.{FirstVar}
 use Rattle.law_agenda.proofs.Seeking.{some_case, none_case}
 use Rattle.law_agenda.proofs.Storing.{first_var_is, no_vars, all_later, first_changed, if_ok}

@@ -1,7 +1,7 @@
 use Rattle.std.proofs.Common.{◌≡◌, ◌<◌, ◌-◌, ◌^◌, suc, subst, arith}
 use Rattle.law_sig.specs.Schemas.{IsConsidered}
 use Rattle.law_agenda.specs.Candidates.{IsCandidate, IsApplication, FirstOf, NextOf}
-use Rattle.law_agenda.specs.Stages.{Here, Onward}
+use Rattle.law_listing.specs.Stages.{Here, Onward}
 use Rattle.law_agenda.specs.Stores.{IsFitting}
 use Rattle.law_agenda.proofs.Seeking.{here_of}
 use Rattle.law_agenda.proofs.Storing.{next_var, next_at, next_from, var_declared, added, if_ok}

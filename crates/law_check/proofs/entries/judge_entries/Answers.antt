@@ -1,10 +1,10 @@
 use Rattle.std.proofs.Common.{◌+◌, ◌∙◌, [], None, length, map, refl, sym, ap, subst}
 use Rattle.std.proofs.lemmas.Option.{slice_get_read}
-use Rattle.law_pool.proofs.Reading.{grows_not, grows_on}
+use Rattle.law_ids.proofs.Reading.{grows_not, grows_on}
 use Rattle.law_sig.specs.Lists.{Each, AreDistinct}
 use Rattle.law_cert_text.specs.declared.cert.SortTree.{SortTree}
-use Rattle.law_test.specs.Values.{IsTestable}
-use Rattle.law_test.proofs.Testing.{pools_stay}
+use Rattle.law_testing.specs.Values.{IsTestable}
+use Rattle.law_testing.proofs.Testing.{pools_stay}
 use Rattle.law_named.specs.Named.{sort_named, entry_named}
 use Rattle.law_check.specs.Seeing.{sight, HasSeen, IsPassed, IsAnswerTo, SeesMore}
 use Rattle.law_checking.proofs.WalkFacts.{have_kids, walked_start, walked_place, walked_terms, walked_fault, walked_passed, walked_on, end_fault, end_trees}

@@ -1,4 +1,4 @@
-use Rattle.law_value.specs.Values.{Grows}
+use Rattle.law_ids.specs.Values.{Grows}
 use Rattle.law_check.specs.Seeing.{HasWalked}
 use Rattle.law_check.proofs.entries.judge_entries.Given as goal
 

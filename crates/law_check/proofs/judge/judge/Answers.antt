@@ -1,8 +1,8 @@
 use Rattle.std.proofs.Common.{rules, subst}
 use Rattle.law_sig.specs.Tests.{assignments}
-use Rattle.law_gen.specs.Draws.{pools_by}
+use Rattle.law_draws.specs.Draws.{pools_by}
 use Rattle.law_gen.specs.Made.{WhereTooLarge}
-use Rattle.law_gen.specs.Sizes.{IsFirst}
+use Rattle.law_draws.specs.Sizes.{IsFirst}
 use Rattle.law_checking.proofs.CertFacts.{too_many, few_enough, over_limits, large_value, within_limits}
 use Rattle.law_check.proofs.judge.judge.Goals as goal
 

@@ -1,7 +1,7 @@
 use Rattle.std.proofs.Common.{◌∙◌, sym, subst}
 use Rattle.std.specs.List.{AllByRecursion}
 use Rattle.law_cert_text.specs.Certificates.{IsTree}
-use Rattle.law_test.proofs.Testing.{pools_stay}
+use Rattle.law_testing.proofs.Testing.{pools_stay}
 use Rattle.law_checking.specs.Steps.{AnswersAll}
 use Rattle.law_checking.proofs.CertFacts.{pools_exact, other_pools, background_fault, all_answered}
 use Rattle.law_check.proofs.judge.judge_pools.Goals as goal

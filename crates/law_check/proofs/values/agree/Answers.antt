@@ -1,10 +1,10 @@
 use Rattle.std.proofs.Common.{◌≡◌, ℕ, ◌^◌, ◌<◌, ◌≤◌, subst, arith}
 use Rattle.law_own.proofs.OwnTests.{first_is_own}
 use Rattle.law_own.specs.Own.{vars_of}
-use Rattle.law_pool.proofs.Reading.{grows_not, grows_on}
+use Rattle.law_ids.proofs.Reading.{grows_not, grows_on}
 use Rattle.law_pool.specs.Wheels.{IsTrackOf}
-use Rattle.law_test.specs.Values.{tests_by}
-use Rattle.law_test.proofs.Testing.{pools_stay}
+use Rattle.law_testing.specs.Values.{tests_by}
+use Rattle.law_testing.proofs.Testing.{pools_stay}
 use Rattle.law_check.proofs.OwnAgreeing.{first_fails, none_fails, goes_on, passes_none}
 use Rattle.law_check.proofs.values.agree.Goals as goal
 

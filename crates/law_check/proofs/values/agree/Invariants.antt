@@ -1,6 +1,6 @@
 use Rattle.std.proofs.Common.{◌-◌, ◌<◌}
 use Rattle.law_own.specs.Own.{IsOwn, vars_of}
-use Rattle.law_value.specs.Values.{Grows}
+use Rattle.law_ids.specs.Values.{Grows}
 use Rattle.law_check.proofs.OwnAgreeing.{PassesBelow}
 use Rattle.law_check.proofs.values.agree.Given as goal
 

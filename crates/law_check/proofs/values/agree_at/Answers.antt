@@ -1,4 +1,4 @@
-use Rattle.law_test.proofs.Testing.{pools_stay}
+use Rattle.law_testing.proofs.Testing.{pools_stay}
 use Rattle.law_check.proofs.Agreeing.{has_value, values_differ}
 use Rattle.law_check.proofs.values.agree_at.Goals as goal
 

@@ -1,7 +1,7 @@
 use Rattle.std.proofs.Common.{ap, ◌∙◌}
 use Rattle.law_sig.specs.declared.parts.Settings.{Settings}
-use Rattle.law_pool.proofs.Reading.{grows_not, grows_on}
-use Rattle.law_test.proofs.Testing.{pools_stay}
+use Rattle.law_ids.proofs.Reading.{grows_not, grows_on}
+use Rattle.law_testing.proofs.Testing.{pools_stay}
 use Rattle.law_check.proofs.Agreeing.{equation_fails, equation_passes, all_hold}
 use Rattle.law_check.proofs.values.background.Goals as goal
 

@@ -1,4 +1,4 @@
-use Rattle.law_value.specs.Values.{Grows}
+use Rattle.law_ids.specs.Values.{Grows}
 use Rattle.law_check.proofs.Agreeing.{FromEquation}
 use Rattle.law_check.proofs.values.background.Given as goal
 

@@ -1,6 +1,6 @@
 use Rattle.std.proofs.Common.{rules, arith, refl, sym, ◌∙◌, [], ◌+◌, ◌++◌, take, drop, subst}
 use Rattle.std.proofs.lemmas.List.{length-take, take-append-le}
-use Rattle.law_io.proofs.LeftFacts.{Consumes-none}
+use Rattle.law_cli.proofs.LeftFacts.{Consumes-none}
 use Rattle.law_cli.specs.Commands.{most_bytes}
 use Rattle.law_cli.specs.Reading.{StandsFor}
 use Rattle.law_cli.proofs.TopFacts.{gave_at_most, gave_too_many, one_more, went}

@@ -12,7 +12,7 @@ returns-in-Ok-clause-means g c =
 pub returns-in-Ok-clause-complete : goal.returns-in-Ok-clause-complete
 returns-in-Ok-clause-complete g c =
     let from = c.in-Ok.ensures.answer in
-    succeeds _ _ _ _ _ _ _ c.in-Some.asked c.in-Ok.field-0.status c.finish-in-Ok.result from.bytes c.in-Ok.field-0.text c.in-Some.ensures from.read from.answer c.finish-in-Ok.ensures.answer
+    succeeds c.answer_laws.ensures.good _ _ _ _ _ _ _ c.in-Some.asked c.in-Ok.field-0.status c.finish-in-Ok.result from.bytes c.in-Ok.field-0.text c.in-Some.ensures from.read from.answer c.finish-in-Ok.ensures.answer
     c.finish-in-Ok.ensures.fault
 
 pub returns-in-Ok-clause-write_fault : goal.returns-in-Ok-clause-write_fault

@@ -2,7 +2,7 @@ use Rattle.std.proofs.Common.{subst, refl}
 use Rattle.law_eval.specs.Work.{Ids, ids_of}
 use Rattle.law_eval.specs.Runs.{Stuck, seen}
 use Rattle.law_eval.specs.Took.{IsRun}
-use Rattle.law_eval.proofs.ResultFacts.{passed}
+use Rattle.law_ids.proofs.ResultFacts.{passed}
 use Rattle.law_eval.proofs.Chain.{run_stuck}
 use Rattle.law_eval.proofs.Outcome.{over, no_answer, answered, answer_held}
 use Rattle.law_eval.proofs.application.apply.Goals as goal

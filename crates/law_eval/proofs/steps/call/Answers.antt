@@ -1,6 +1,6 @@
 use Rattle.std.proofs.Common.{Some, sym, ap, ◌∙◌}
 use Rattle.law_eval.specs.Work.{ids_of}
-use Rattle.law_eval.proofs.ResultFacts.{on_ok}
+use Rattle.law_ids.proofs.ResultFacts.{on_ok}
 use Rattle.law_eval.proofs.TookFacts.{applied_took}
 use Rattle.law_eval.proofs.StuckFacts.{apply_stuck}
 use Rattle.law_eval.proofs.steps.call.Goals as goal

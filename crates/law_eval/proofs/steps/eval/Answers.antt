@@ -5,7 +5,7 @@ use Rattle.law_sig.specs.declared.tree.Body.TheViews.{out-Body, out-roll-Body}
 use Rattle.law_sig.specs.declared.tree.Body.{Body}
 use Rattle.law_eval.specs.Work.{Todo, ids_of}
 use Rattle.law_eval.specs.Work.Todo.{each, build, apply}
-use Rattle.law_eval.proofs.ResultFacts.{on_ok, passed}
+use Rattle.law_ids.proofs.ResultFacts.{on_ok, passed}
 use Rattle.law_eval.proofs.BodyFacts.{nodes-Make, nodes-Call, few_bodies}
 use Rattle.law_eval.proofs.TookFacts.{took_by, field_took, param_took, make_took, call_took}
 use Rattle.law_eval.proofs.Tops.{same_ids}

@@ -2,9 +2,9 @@ use Rattle.std.proofs.Common.{◌≡◌, ◌<◌, refl, sym, subst}
 use Rattle.law_eval.specs.Work.{Ids, ids_of, todo_of}
 use Rattle.law_eval.specs.Runs.{Stuck, seen}
 use Rattle.law_eval.specs.Took.{IsSound, Took, on_top, steps_left}
-use Rattle.law_eval.proofs.ResultFacts.{passed}
+use Rattle.law_ids.proofs.ResultFacts.{passed}
 use Rattle.law_eval.proofs.Tops.{same_ids}
-use Rattle.law_value.proofs.Tops.{pushed}
+use Rattle.law_ids.proofs.Tops.{pushed}
 use Rattle.law_eval.proofs.Chain.{run_on, run_stuck}
 use Rattle.law_eval.proofs.steps.run.Goals as goal
 

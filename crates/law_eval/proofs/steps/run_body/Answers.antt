@@ -1,9 +1,9 @@
 use Rattle.std.proofs.Common.{◌≡◌, None, ap, subst, ◌∙◌}
 use Rattle.law_sig.specs.Evaluate.{chosen}
-use Rattle.law_value.specs.Values.{trees_of}
+use Rattle.law_ids.specs.Values.{trees_of}
 use Rattle.law_eval.specs.Work.{Ids, ids_of}
 use Rattle.law_eval.specs.Took.{IsChosen}
-use Rattle.law_eval.proofs.ResultFacts.{on_ok, passed}
+use Rattle.law_ids.proofs.ResultFacts.{on_ok, passed}
 use Rattle.law_eval.proofs.TookFacts.{began_took}
 use Rattle.law_eval.proofs.StuckFacts.{apply_stuck, no_row, gives_none}
 use Rattle.law_eval.proofs.Parts.{not_chosen}

@@ -2,7 +2,7 @@ use Rattle.std.proofs.Common.{sym, ap, subst}
 use Rattle.law_eval.specs.Work.{Todo, ids_of, todo_of}
 use Rattle.law_eval.specs.Runs.{Stuck, seen}
 use Rattle.law_eval.specs.Took.{Took, on_top}
-use Rattle.law_eval.proofs.ResultFacts.{on_ok}
+use Rattle.law_ids.proofs.ResultFacts.{on_ok}
 use Rattle.law_eval.proofs.TookFacts.{built_took, spread_taken}
 use Rattle.law_eval.proofs.StuckFacts.{build_stuck}
 use Rattle.law_eval.proofs.steps.step.Goals as goal

@@ -1,7 +1,7 @@
-use Rattle.law_gen.specs.Draws.{pools_by}
+use Rattle.law_draws.specs.Draws.{pools_by}
 use Rattle.law_explore.specs.Refusals.{Breaks}
 use Rattle.law_explore.specs.Values.{IsLacking}
-use Rattle.law_test.proofs.Testing.{pools_stay}
+use Rattle.law_testing.proofs.Testing.{pools_stay}
 use Rattle.law_explore.proofs.Breaking.{handed_on, lacking_left, lacking_right, values_hold, values_differ}
 use Rattle.law_explore.proofs.background.check_at.Goals as goal
 

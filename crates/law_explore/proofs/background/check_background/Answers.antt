@@ -1,9 +1,9 @@
 use Rattle.std.proofs.Common.{◌+◌, ap, ◌∙◌}
 use Rattle.law_sig.specs.declared.parts.Settings.{Settings}
-use Rattle.law_gen.specs.Draws.{pools_by}
+use Rattle.law_draws.specs.Draws.{pools_by}
 use Rattle.law_explore.specs.Refusals.{Breaks, IsFirstAnswer, HasBrokenBackground}
-use Rattle.law_test.specs.Values.{tests_by}
-use Rattle.law_test.proofs.Testing.{pools_stay}
+use Rattle.law_testing.specs.Values.{tests_by}
+use Rattle.law_testing.proofs.Testing.{pools_stay}
 use Rattle.law_explore.proofs.Breaking.{handed_on, background_breaks}
 use Rattle.law_explore.proofs.background.check_background.Goals as goal
 

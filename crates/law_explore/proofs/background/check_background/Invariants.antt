@@ -2,8 +2,8 @@ use Rattle.std.proofs.Common.{take}
 use Rattle.law_sig.specs.Lists.{Each}
 use Rattle.law_sig.specs.Tests.{Agrees}
 use Rattle.law_sig.specs.declared.parts.Equation.{Equation}
-use Rattle.law_value.specs.Values.{Grows}
-use Rattle.law_gen.specs.Draws.{pools_by}
+use Rattle.law_ids.specs.Values.{Grows}
+use Rattle.law_draws.specs.Draws.{pools_by}
 use Rattle.law_explore.proofs.background.check_background.Given as goal
 
 abbrev pub invariant-loop-at : goal.invariant-loop-at

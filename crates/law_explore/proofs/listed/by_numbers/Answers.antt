@@ -1,10 +1,10 @@
 use Rattle.std.proofs.Common.{◌∙◌}
 use Rattle.law_sig.specs.Tests.{assignments}
 use Rattle.law_sig.specs.Counts.{term_count}
-use Rattle.law_gen.specs.Draws.{pools_by}
-use Rattle.law_pool.proofs.Reading.{grows_on}
+use Rattle.law_draws.specs.Draws.{pools_by}
+use Rattle.law_ids.proofs.Reading.{grows_on}
 use Rattle.law_explore.specs.Refusals.{HasBrokenBackground, HasLackingTerm, IsRefusal}
-use Rattle.law_test.proofs.Testing.{pools_stay}
+use Rattle.law_testing.proofs.Testing.{pools_stay}
 use Rattle.law_explore.proofs.Breaking.{handed_on}
 use Rattle.law_explore.proofs.RefusalFacts.{limit_kept, refused_background, refused_term}
 use Rattle.law_explore.proofs.ListedFacts.{law_list_is}

@@ -1,9 +1,9 @@
 use Rattle.std.proofs.Common.{◌≡◌, ◌+◌, length, subst, arith}
-use Rattle.law_pool.proofs.Reading.{grows_not, grows_on, each_at}
-use Rattle.law_gen.specs.Draws.{pools_by}
+use Rattle.law_ids.proofs.Reading.{grows_not, grows_on, each_at}
+use Rattle.law_draws.specs.Draws.{pools_by}
 use Rattle.law_valid.specs.declared.rule.Answer.TheVariants.{No}
 use Rattle.law_valid.specs.declared.rule.Rule.TheVariants.{V8}
-use Rattle.law_test.proofs.Testing.{pools_stay}
+use Rattle.law_testing.proofs.Testing.{pools_stay}
 use Rattle.law_checking.specs.Planted.{HaveKids, JudgesTree, JudgesTrees}
 use Rattle.law_checking.specs.Parts.{IsYes}
 use Rattle.law_checking.proofs.Forested.{from_first, as_long, named_at, not_next, tree_fails, tree_passes, all_judged, one_missing}

@@ -1,4 +1,4 @@
-use Rattle.law_value.specs.Values.{Grows}
+use Rattle.law_ids.specs.Values.{Grows}
 use Rattle.law_checking.proofs.Forested.{FromTree}
 use Rattle.law_forest.proofs.forest.judge_trees.Given as goal
 

@@ -1,6 +1,6 @@
 use Rattle.std.proofs.Common.{◌≡◌, take}
 use Rattle.law_sig.specs.Lists.{Each}
-use Rattle.law_value.specs.declared.bank.ValueId.{ValueId}
+use Rattle.law_ids.specs.declared.ids.ValueId.{ValueId}
 use Rattle.law_forest.proofs.once.are_alike.Given as goal
 
 abbrev pub invariant-loop-at : goal.invariant-loop-at

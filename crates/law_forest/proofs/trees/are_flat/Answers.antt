@@ -1,7 +1,7 @@
 use Rattle.std.proofs.Common.{refl, slice_index_or}
 use Rattle.law_sig.specs.Tests.{IsFlat}
 use Rattle.law_laws.proofs.ListFacts.{each_map}
-use Rattle.law_gen.specs.Draws.{pools_by}
+use Rattle.law_draws.specs.Draws.{pools_by}
 use Rattle.law_valid.specs.Trees.{IsTest, IsFlatTest}
 use Rattle.law_checking.proofs.Onces.{reread, not_each, each_next, each_all_of}
 use Rattle.law_checking.proofs.Treeing.{each_two}

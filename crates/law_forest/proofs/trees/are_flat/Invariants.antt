@@ -1,7 +1,7 @@
 use Rattle.std.proofs.Common.{take}
 use Rattle.law_sig.specs.Lists.{Each}
 use Rattle.law_sig.specs.Tests.{IsFlat}
-use Rattle.law_pool.specs.Table.{IsFor}
+use Rattle.law_ids.specs.Table.{IsFor}
 use Rattle.law_forest.proofs.trees.are_flat.Given as goal
 
 abbrev pub invariant-loop-test : goal.invariant-loop-test

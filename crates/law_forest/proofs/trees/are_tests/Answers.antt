@@ -1,8 +1,8 @@
 use Rattle.std.proofs.Common.{◌<◌, refl, subst, slice_index_or, arith}
 use Rattle.law_laws.proofs.ListFacts.{each_map}
-use Rattle.law_gen.specs.Draws.{pools_by}
+use Rattle.law_draws.specs.Draws.{pools_by}
 use Rattle.law_valid.specs.Trees.{IsTest}
-use Rattle.law_test.specs.Values.{tests_by}
+use Rattle.law_testing.specs.Values.{tests_by}
 use Rattle.law_checking.proofs.Onces.{reread, not_each, each_all_of}
 use Rattle.law_forest.proofs.trees.are_tests.Goals as goal
 

@@ -1,13 +1,13 @@
 use Rattle.std.proofs.Common.{◌≡◌, ◌<◌, ◌≤◌, List, [], ◌∷◌, ◌++◌, true, false, length, slice_index_or, sym, ap, subst, ◌∙◌, refl}
 use Rattle.std.specs.List.{filter}
 use Rattle.law_sig.specs.Signature.{constructors}
-use Rattle.law_gen.specs.Draws.{fits_over}
+use Rattle.law_draws.specs.Draws.{fits_over}
 use Rattle.law_sig.specs.Lists.{Each}
 use Rattle.law_sig.specs.declared.tree.SortId.{SortId}
 use Rattle.law_sig.specs.declared.tree.SymId.{SymId}
-use Rattle.law_pool.proofs.Reading.{each_at}
-use Rattle.law_value.proofs.BankFacts.{take_all}
-use Rattle.law_gen.proofs.ChoiceFacts.{IsMaker, makers, there_within, sorts_declared, found_next, at_place}
+use Rattle.law_ids.proofs.Reading.{each_at}
+use Rattle.law_ids.proofs.BankFacts.{take_all}
+use Rattle.law_draws.proofs.ChoiceFacts.{IsMaker, makers, there_within, sorts_declared, found_next, at_place}
 use Rattle.law_gen.proofs.choices.choices_over.Goals as goal
 use Rattle.law_gen.proofs.choices.choices_over.Goals.{then-fits+in_ok-push, else-fits}
 

@@ -1,8 +1,8 @@
 use Rattle.std.proofs.Common.{◌≡◌, ℕ, take}
 use Rattle.std.specs.List.{filter}
 use Rattle.law_sig.specs.Signature.{constructors}
-use Rattle.law_gen.specs.Draws.{fits_over}
-use Rattle.law_gen.specs.Choices.{level_of}
+use Rattle.law_draws.specs.Draws.{fits_over}
+use Rattle.law_draws.specs.Choices.{level_of}
 use Rattle.law_gen.proofs.choices.choices_over.Given as goal
 
 abbrev pub invariant-loop-sym : goal.invariant-loop-sym

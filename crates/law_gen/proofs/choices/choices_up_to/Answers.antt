@@ -1,9 +1,9 @@
 use Rattle.std.proofs.Common.{◌≡◌, List, ℕ, suc, ◌+◌, ◌++◌, ◌∷◌, [], length, slice_index_or, ap, ◌∙◌, sym, ap₂, arith}
 use Rattle.law_sig.specs.declared.parts.SigParts.{SigParts}
 use Rattle.law_sig.specs.declared.tree.SymId.{SymId}
-use Rattle.law_gen.specs.Draws.{choices}
-use Rattle.law_gen.specs.Choices.{level_of, table_of}
-use Rattle.law_gen.proofs.First.{first_more, length_first, first_at}
+use Rattle.law_draws.specs.Draws.{choices}
+use Rattle.law_draws.specs.Choices.{level_of, table_of}
+use Rattle.law_draws.proofs.First.{first_more, length_first, first_at}
 use Rattle.law_gen.proofs.choices.choices_up_to.Goals as goal
 
 -- a level of a table, and the sorts that it has

@@ -1,5 +1,5 @@
 use Rattle.std.proofs.Common.{◌≡◌}
-use Rattle.law_gen.specs.Choices.{table_of}
+use Rattle.law_draws.specs.Choices.{table_of}
 use Rattle.law_gen.proofs.choices.choices_up_to.Given as goal
 
 abbrev pub invariant-loop-below : goal.invariant-loop-below

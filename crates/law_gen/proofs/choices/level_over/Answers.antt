@@ -1,8 +1,8 @@
 use Rattle.std.proofs.Common.{List, ℕ, suc, ◌++◌, ◌∷◌, [], ◌∙◌, sym, ap₂}
 use Rattle.law_sig.specs.declared.tree.SymId.{SymId}
 use Rattle.law_sig.specs.declared.parts.SigParts.{SigParts}
-use Rattle.law_gen.specs.Draws.{choices}
-use Rattle.law_gen.proofs.First.{first_more}
+use Rattle.law_draws.specs.Draws.{choices}
+use Rattle.law_draws.proofs.First.{first_more}
 use Rattle.law_gen.proofs.choices.level_over.Goals as goal
 
 abbrev level : SigParts → ℕ → ℕ → List SymId

@@ -1,7 +1,7 @@
 use Rattle.std.proofs.Common.{◌≡◌, ℕ, suc}
 use Rattle.law_sig.specs.Tests.{first_of}
-use Rattle.law_gen.specs.Draws.{choices}
-use Rattle.law_gen.specs.Choices.{level_of}
+use Rattle.law_draws.specs.Draws.{choices}
+use Rattle.law_draws.specs.Choices.{level_of}
 use Rattle.law_gen.proofs.choices.level_over.Given as goal
 
 abbrev pub invariant-loop-sort : goal.invariant-loop-sort

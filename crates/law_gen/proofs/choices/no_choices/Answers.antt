@@ -1,6 +1,6 @@
 use Rattle.std.proofs.Common.{List, ℕ, ◌++◌, ◌∷◌, [], ◌∙◌, sym, ap₂}
 use Rattle.law_sig.specs.declared.tree.SymId.{SymId}
-use Rattle.law_gen.proofs.First.{first_more}
+use Rattle.law_draws.proofs.First.{first_more}
 use Rattle.law_gen.proofs.choices.no_choices.Goals as goal
 
 abbrev none : ℕ → List SymId

@@ -1,9 +1,9 @@
 use Rattle.std.proofs.Common.{sym, ap, ◌∙◌, subst, arith}
 use Rattle.law_sig.specs.WellFormed.{IsSeeded, IsPoolRule}
 use Rattle.law_sig.specs.declared.parts.Settings.{Settings}
-use Rattle.law_pool.proofs.GivenFacts.{ids_shape, ids_count}
-use Rattle.law_gen.specs.Draws.{pools_drawn, generator_of}
-use Rattle.law_gen.proofs.PoolFacts.{pools_shape, pools_count}
+use Rattle.law_ids.proofs.GivenFacts.{ids_shape, ids_count}
+use Rattle.law_draws.specs.Draws.{pools_drawn, generator_of}
+use Rattle.law_draws.proofs.ShapeFacts.{pools_shape, pools_count}
 use Rattle.law_gen.proofs.make.make_pools.Goals as goal
 
 pub build-requires-clause-shape : goal.build-requires-clause-shape

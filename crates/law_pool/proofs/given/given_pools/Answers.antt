@@ -2,11 +2,11 @@ use Rattle.std.proofs.Common.{◌≡◌, ◌+◌, map, take, IsTrue, IfOk, Resul
 use Rattle.law_sig.specs.Lists.{Each}
 use Rattle.law_sig.specs.declared.parts.Settings.{Settings}
 use Rattle.law_sig.specs.declared.parts.PoolRule.TheVariants as rule
-use Rattle.law_value.specs.Values.{AreOf, trees_of, is_plain}
-use Rattle.law_value.proofs.BankFacts.{take_all}
-use Rattle.law_pool.specs.Table.{pools_of, given_in, PoolTable}
-use Rattle.law_pool.proofs.Reading.{reads_more, sorts_keep, take_next, each_at}
-use Rattle.law_pool.proofs.GivenFacts.{given_readable, ids_shape, ids_count}
+use Rattle.law_ids.specs.Values.{AreOf, trees_of, is_plain}
+use Rattle.law_ids.proofs.BankFacts.{take_all}
+use Rattle.law_ids.specs.Table.{pools_of, given_in, PoolTable}
+use Rattle.law_ids.proofs.Reading.{reads_more, sorts_keep, take_next, each_at}
+use Rattle.law_ids.proofs.GivenFacts.{given_readable, ids_shape, ids_count}
 use Rattle.law_pool.proofs.given.given_pools.Goals as goal
 
 pub read_pool-requires : goal.read_pool-requires

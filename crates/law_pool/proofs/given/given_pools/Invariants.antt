@@ -1,7 +1,7 @@
 use Rattle.std.proofs.Common.{take, map}
 use Rattle.law_sig.specs.Lists.{Each}
-use Rattle.law_value.specs.Values.{AreOf, trees_of}
-use Rattle.law_pool.proofs.Reading.{Reads}
+use Rattle.law_ids.specs.Values.{AreOf, trees_of}
+use Rattle.law_ids.proofs.Reading.{Reads}
 use Rattle.law_pool.proofs.given.given_pools.Given as goal
 
 abbrev pub invariant-loop-pool : goal.invariant-loop-pool

@@ -1,7 +1,7 @@
 use Rattle.std.proofs.Common.{IsTrue, take, sym, subst, ◌∙◌, ◌+◌, []}
 use Rattle.law_sig.specs.Lists.{Each}
-use Rattle.law_value.specs.Values.{AreOf, trees_of, is_plain}
-use Rattle.law_pool.proofs.Reading.{Reads, reads_none, reads_more, grows_on, ids_keep, take_next, each_at}
+use Rattle.law_ids.specs.Values.{AreOf, trees_of, is_plain}
+use Rattle.law_ids.proofs.Reading.{Reads, reads_none, reads_more, grows_on, ids_keep, take_next, each_at}
 use Rattle.law_pool.proofs.given.read_pool.Goals as goal
 
 pub read_values-requires : goal.read_values-requires

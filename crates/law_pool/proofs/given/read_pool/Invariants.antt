@@ -1,6 +1,6 @@
 use Rattle.std.proofs.Common.{take}
-use Rattle.law_value.specs.Values.{AreOf, trees_of}
-use Rattle.law_pool.proofs.Reading.{Reads}
+use Rattle.law_ids.specs.Values.{AreOf, trees_of}
+use Rattle.law_ids.proofs.Reading.{Reads}
 use Rattle.law_pool.proofs.given.read_pool.Given as goal
 
 abbrev pub invariant-loop-values : goal.invariant-loop-values

@@ -1,6 +1,6 @@
 use Rattle.std.proofs.Common.{IsTrue, take, sym, subst, ◌+◌, []}
-use Rattle.law_value.specs.Values.{IsOf, tree_of, is_plain}
-use Rattle.law_pool.proofs.Reading.{Reads, reads_none, reads_more, grows_on, id_keeps, take_next, each_at}
+use Rattle.law_ids.specs.Values.{IsOf, tree_of, is_plain}
+use Rattle.law_ids.proofs.Reading.{Reads, reads_none, reads_more, grows_on, id_keeps, take_next, each_at}
 use Rattle.law_pool.proofs.given.read_values.Goals as goal
 
 pub read_value-requires : goal.read_value-requires

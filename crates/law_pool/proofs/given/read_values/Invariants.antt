@@ -1,6 +1,6 @@
 use Rattle.std.proofs.Common.{take}
-use Rattle.law_value.specs.Values.{IsOf, tree_of}
-use Rattle.law_pool.proofs.Reading.{Reads}
+use Rattle.law_ids.specs.Values.{IsOf, tree_of}
+use Rattle.law_ids.proofs.Reading.{Reads}
 use Rattle.law_pool.proofs.given.read_values.Given as goal
 
 abbrev pub invariant-loop-value : goal.invariant-loop-value

@@ -1,5 +1,5 @@
 use Rattle.std.proofs.Common.{◌≡◌, take}
-use Rattle.law_value.specs.Values.{trees_of}
+use Rattle.law_ids.specs.Values.{trees_of}
 use Rattle.law_pool.proofs.written.write_values.Given as goal
 
 abbrev pub invariant-loop-value : goal.invariant-loop-value

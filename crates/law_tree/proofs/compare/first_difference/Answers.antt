@@ -1,6 +1,6 @@
 use Rattle.std.proofs.Common.{◌+◌, below_more, arith, subst, slice_index, refl}
 use Rattle.law_sig.specs.Lists.In.{here, there}
-use Rattle.law_value.specs.declared.bank.ValueId.{ValueId}
+use Rattle.law_ids.specs.declared.ids.ValueId.{ValueId}
 use Rattle.law_tree.proofs.ListFacts.{index_in}
 use Rattle.law_tree.proofs.Comparing.{below_stays, meaning_after, may_after, values_differ, values_same, skipped, agree_all, asked_upto, passed}
 use Rattle.law_tree.proofs.compare.first_difference.Goals as goal

@@ -1,8 +1,8 @@
 use Rattle.std.proofs.Common.{◌≡◌, ◌∷◌, ◌++◌, [], take, drop, sym, ap, ◌∙◌, arith}
 use Rattle.law_sig.specs.declared.tree.Tree.TheVariants.{App}
-use Rattle.law_value.specs.Tops.{tops}
-use Rattle.law_value.proofs.Tops.{pushed}
-use Rattle.law_value.proofs.BankFacts.{take_next}
+use Rattle.law_ids.specs.Tops.{tops}
+use Rattle.law_ids.proofs.Tops.{pushed}
+use Rattle.law_ids.proofs.BankFacts.{take_next}
 use Rattle.law_value.proofs.WriteFacts.{next_item}
 use Rattle.law_value.proofs.bank.join.Goals as goal
 

@@ -1,5 +1,5 @@
 use Rattle.std.proofs.Common.{◌≡◌, take, drop}
-use Rattle.law_value.specs.Tops.{tops}
+use Rattle.law_ids.specs.Tops.{tops}
 use Rattle.law_value.proofs.bank.join.Given as goal
 
 abbrev pub invariant-loop-at : goal.invariant-loop-at

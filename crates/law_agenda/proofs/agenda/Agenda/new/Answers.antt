@@ -3,7 +3,7 @@ use Rattle.law_agenda.specs.declared.agenda.Agenda.{Agenda}
 use Rattle.law_agenda.specs.Agendas.{IsAt}
 use Rattle.law_valid.specs.Order.{at_start}
 use Rattle.law_sig.specs.Schemas.{IsConsidered}
-use Rattle.law_agenda.specs.Stages.{Onward}
+use Rattle.law_listing.specs.Stages.{Onward}
 use Rattle.law_agenda.specs.Stores.{IsStore}
 use Rattle.law_agenda.proofs.Storing.{first_changed}
 use Rattle.law_agenda.proofs.AgendaFacts.{begun, all_stages}

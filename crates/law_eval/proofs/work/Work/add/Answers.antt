@@ -1,7 +1,7 @@
 use Rattle.std.proofs.Common.{◌∷◌, ap, ◌∙◌}
 use Rattle.law_eval.specs.Work.{ids_of}
-use Rattle.law_value.specs.Tops.{tops}
-use Rattle.law_value.proofs.Tops.{pushed}
+use Rattle.law_ids.specs.Tops.{tops}
+use Rattle.law_ids.proofs.Tops.{pushed}
 use Rattle.law_eval.proofs.work.Work.add.Goals as goal
 
 pub returns-clause-ok : goal.returns-clause-ok

@@ -1,5 +1,5 @@
 use Rattle.std.proofs.Common.{◌≡◌, ◌-◌, length, Option, Some, None, slice_get, sym, ap, ◌∙◌}
-use Rattle.law_value.specs.declared.bank.ValueId.{ValueId}
+use Rattle.law_ids.specs.declared.ids.ValueId.{ValueId}
 use Rattle.law_eval.proofs.Tops.{last_first, first_is}
 use Rattle.law_eval.proofs.work.Work.answer.Goals as goal
 

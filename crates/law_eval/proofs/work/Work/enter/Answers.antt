@@ -1,7 +1,7 @@
 use Rattle.std.proofs.Common.{refl}
 use Rattle.law_eval.specs.Work.{todo_of, running}
 use Rattle.law_eval.proofs.Tops.{pushed_twice, same_ids}
-use Rattle.law_value.proofs.Tops.{pushed}
+use Rattle.law_ids.proofs.Tops.{pushed}
 use Rattle.law_eval.proofs.work.Work.enter.Goals as goal
 
 pub returns-clause-ok : goal.returns-clause-ok

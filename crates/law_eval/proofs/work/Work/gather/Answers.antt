@@ -1,8 +1,8 @@
 use Rattle.std.proofs.Common.{refl, ap, ◌∙◌, ◌∷◌}
 use Rattle.law_eval.specs.Work.{todo_of}
-use Rattle.law_value.specs.Tops.{tops}
+use Rattle.law_ids.specs.Tops.{tops}
 use Rattle.law_eval.proofs.Tops.{pushed_twice, same_ids}
-use Rattle.law_value.proofs.Tops.{pushed}
+use Rattle.law_ids.proofs.Tops.{pushed}
 use Rattle.law_eval.proofs.work.Work.gather.Goals as goal
 
 pub returns-clause-ok : goal.returns-clause-ok

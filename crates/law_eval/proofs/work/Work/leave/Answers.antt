@@ -1,7 +1,7 @@
 use Rattle.std.proofs.Common.{refl}
 use Rattle.law_eval.specs.Work.{running}
 use Rattle.law_eval.proofs.Tops.{same_ids}
-use Rattle.law_value.proofs.Tops.{pushed}
+use Rattle.law_ids.proofs.Tops.{pushed}
 use Rattle.law_eval.proofs.work.Work.leave.Goals as goal
 
 pub returns-clause-ok : goal.returns-clause-ok

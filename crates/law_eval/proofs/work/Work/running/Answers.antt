@@ -2,7 +2,7 @@ use Rattle.std.proofs.Common.{◌≡◌, ◌-◌, [], List, length, Option, Some
 use Rattle.std.specs.Option.{option_copied}
 use Rattle.law_eval.specs.declared.work.Frame.{Frame}
 use Rattle.law_eval.specs.Work.{running, IsFirst}
-use Rattle.law_value.specs.Tops.{tops}
+use Rattle.law_ids.specs.Tops.{tops}
 use Rattle.law_eval.proofs.Tops.{last_first, no_last}
 use Rattle.law_eval.proofs.work.Work.running.Goals as goal
 

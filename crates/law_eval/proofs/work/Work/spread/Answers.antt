@@ -1,7 +1,7 @@
 use Rattle.std.proofs.Common.{◌≡◌, ◌<◌, [], ◌∷◌, List, length, ◌==◌, refl, ap, sym, ◌∙◌, arith}
 use Rattle.law_sig.specs.declared.tree.Body.{Body}
 use Rattle.law_eval.specs.Work.{Todo, ids_of, todo_of, running, spread_out}
-use Rattle.law_value.specs.Tops.{tops}
+use Rattle.law_ids.specs.Tops.{tops}
 use Rattle.law_eval.proofs.Tops.{has_first, pushed_twice, spread_is}
 use Rattle.law_eval.proofs.work.Work.spread.Goals as goal
 

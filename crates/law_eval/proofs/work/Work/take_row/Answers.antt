@@ -1,6 +1,6 @@
 use Rattle.std.proofs.Common.{refl, ap, ◌∙◌, sym, length}
 use Rattle.law_eval.proofs.Tops.{same_ids, first_is}
-use Rattle.law_value.proofs.Tops.{pushed}
+use Rattle.law_ids.proofs.Tops.{pushed}
 use Rattle.law_eval.proofs.work.Work.take_row.Goals as goal
 
 pub returns-then-len-count-clause-over : goal.returns-then-len-count-clause-over

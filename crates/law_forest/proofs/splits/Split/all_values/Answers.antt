@@ -1,6 +1,6 @@
 use Rattle.std.proofs.Common.{subst}
-use Rattle.law_pool.proofs.Reading.{grows_on}
-use Rattle.law_test.proofs.Testing.{pools_stay}
+use Rattle.law_ids.proofs.Reading.{grows_on}
+use Rattle.law_testing.proofs.Testing.{pools_stay}
 use Rattle.law_checking.specs.Splitting.{AreItems}
 use Rattle.law_checking.proofs.Valuing.{kids_next, kid_fails}
 use Rattle.law_forest.proofs.splits.Split.all_values.Goals as goal

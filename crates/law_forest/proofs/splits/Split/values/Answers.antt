@@ -1,6 +1,6 @@
 use Rattle.std.proofs.Common.{slice_index_or, subst}
-use Rattle.law_pool.proofs.Reading.{grows_on}
-use Rattle.law_test.proofs.Testing.{pools_stay}
+use Rattle.law_ids.proofs.Reading.{grows_on}
+use Rattle.law_testing.proofs.Testing.{pools_stay}
 use Rattle.law_checking.specs.Splitting.{IsItem}
 use Rattle.law_checking.proofs.Onces.{reread}
 use Rattle.law_checking.proofs.Valuing.{numbers_next, number_fails}

@@ -1,6 +1,6 @@
 use Rattle.std.proofs.Common.{take}
-use Rattle.law_value.specs.Values.{Grows}
-use Rattle.law_test.specs.Values.{Both}
+use Rattle.law_ids.specs.Values.{Grows}
+use Rattle.law_testing.specs.Values.{Both}
 use Rattle.law_checking.specs.Splitting.{IsNumberValue}
 use Rattle.law_forest.proofs.splits.Split.values.Given as goal
 

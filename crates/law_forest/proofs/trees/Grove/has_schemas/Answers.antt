@@ -1,4 +1,4 @@
-use Rattle.law_gen.specs.Draws.{pools_by}
+use Rattle.law_draws.specs.Draws.{pools_by}
 use Rattle.law_checking.proofs.Treeing.{schemas_are}
 use Rattle.law_forest.proofs.trees.Grove.has_schemas.Goals as goal
 

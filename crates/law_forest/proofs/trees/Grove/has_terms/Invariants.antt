@@ -1,6 +1,6 @@
 use Rattle.std.proofs.Common.{◌↔◌, length}
 use Rattle.law_sig.specs.Lists.{Each}
-use Rattle.law_gen.specs.Draws.{pools_by}
+use Rattle.law_draws.specs.Draws.{pools_by}
 use Rattle.law_checking.specs.Lines.{held_in}
 use Rattle.law_checking.specs.Planted.{AreTermsOf}
 use Rattle.law_forest.proofs.trees.Grove.has_terms.Given as goal

@@ -1,5 +1,5 @@
 use Rattle.indexmap.specs.IndexMap.{get}
-use Rattle.law_gen.specs.Draws.{pools_by}
+use Rattle.law_draws.specs.Draws.{pools_by}
 use Rattle.law_checking.specs.Planted.{same_number}
 use Rattle.law_checking.proofs.Treeing.{terms_once, terms_are}
 use Rattle.law_forest.proofs.trees.Grove.has_terms_at.Goals as goal

@@ -1,6 +1,6 @@
 use Rattle.std.proofs.Common.{◌↔◌, IsTrue, IfOk, subst, sym, ap, ◌∙◌}
 use Rattle.law_sig.specs.Lists.{Each}
-use Rattle.law_gen.specs.Draws.{pools_by}
+use Rattle.law_draws.specs.Draws.{pools_by}
 use Rattle.law_cert_text.specs.declared.cert.TreeLine.TheVariants.{Class}
 use Rattle.law_checking.specs.Lines.{held_at}
 use Rattle.law_checking.specs.Planted.{AreTermsOf}

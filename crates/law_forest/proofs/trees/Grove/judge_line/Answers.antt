@@ -1,5 +1,5 @@
 use Rattle.std.proofs.Common.{IfOk, sym, subst}
-use Rattle.law_gen.specs.Draws.{pools_by}
+use Rattle.law_draws.specs.Draws.{pools_by}
 use Rattle.law_valid.specs.Judged.{CutsTell}
 use Rattle.law_checking.specs.Lines.{judging_at}
 use Rattle.law_checking.specs.Parts.{IsYes}

@@ -1,5 +1,5 @@
 use Rattle.std.proofs.Common.{IfOk, subst}
-use Rattle.law_gen.specs.Draws.{pools_by}
+use Rattle.law_draws.specs.Draws.{pools_by}
 use Rattle.law_valid.specs.Judged.{CutsTell}
 use Rattle.law_checking.specs.Parts.{IsYes}
 use Rattle.law_checking.proofs.Treeing.{as_upper, as_lower}

@@ -1,11 +1,11 @@
 use Rattle.std.proofs.Common.{subst}
 use Rattle.law_sig.specs.Lists.{Each}
-use Rattle.law_pool.proofs.Reading.{grows_on}
-use Rattle.law_gen.specs.Draws.{pools_by}
+use Rattle.law_ids.proofs.Reading.{grows_on}
+use Rattle.law_draws.specs.Draws.{pools_by}
 use Rattle.law_valid.specs.Trees.{IsTest}
 use Rattle.law_valid.specs.Judged.{CutsTell}
 use Rattle.law_laws.proofs.ListFacts.{each_right}
-use Rattle.law_test.proofs.Testing.{pools_stay}
+use Rattle.law_testing.proofs.Testing.{pools_stay}
 use Rattle.law_checking.specs.declared.part.Part.TheVariants.{Tests}
 use Rattle.law_checking.specs.Lines.{part_of, parts_of, judgings}
 use Rattle.law_checking.specs.Parts.{IsYes}

@@ -1,7 +1,7 @@
 use Rattle.std.proofs.Common.{length}
 use Rattle.law_sig.specs.Lists.{Each}
-use Rattle.law_value.specs.Values.{Grows}
-use Rattle.law_gen.specs.Draws.{pools_by}
+use Rattle.law_ids.specs.Values.{Grows}
+use Rattle.law_draws.specs.Draws.{pools_by}
 use Rattle.law_valid.specs.Trees.{IsTest}
 use Rattle.law_valid.specs.declared.rule.Answer.{Answer}
 use Rattle.law_valid.specs.Judged.{CutsTell}

@@ -1,6 +1,6 @@
 use Rattle.std.proofs.Common.{subst, sym, ◌∙◌}
 use Rattle.law_sig.specs.Lists.{Each}
-use Rattle.law_gen.specs.Draws.{pools_by}
+use Rattle.law_draws.specs.Draws.{pools_by}
 use Rattle.law_valid.specs.Trees.{IsTest}
 use Rattle.law_valid.specs.Judged.{CutsTell}
 use Rattle.law_checking.specs.Lines.{judgings}

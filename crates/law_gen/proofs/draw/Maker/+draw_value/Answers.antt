@@ -3,12 +3,13 @@ use Rattle.std.proofs.lemmas.Result.{err_from_is_err_and}
 use Rattle.rand_pcg.specs.Lcg.{Lcg}
 use Rattle.law_sig.specs.WellFormed.{is_within_height}
 use Rattle.law_sig.specs.declared.tree.Tree.TheVariants.{App}
-use Rattle.law_value.specs.Values.{IsOf, tree_of, trees_of}
-use Rattle.law_value.proofs.ReadFacts.{length_map}
-use Rattle.law_pool.proofs.Reading.{id_keeps}
-use Rattle.law_gen.specs.Draws.{chosen, in_turn, value_drawn}
+use Rattle.law_ids.specs.Values.{IsOf, tree_of, trees_of}
+use Rattle.law_ids.proofs.BankFacts.{length_map}
+use Rattle.law_ids.proofs.Reading.{id_keeps}
+use Rattle.law_draws.specs.Draws.{chosen, in_turn, value_drawn}
 use Rattle.law_gen.proofs.Turns.{going_here, going_more, going_last, means_more, at_next, drop_past}
-use Rattle.law_gen.proofs.DrawFacts.{height_within, sort_within, looked_up, some_within, word_within, above_zero, chosen_within, drawing, each_index, some_node, large_field, room_more, room_whole, in_turn_length, large_on, sort_declared, lower}
+use Rattle.law_gen.proofs.RoomFacts.{height_within, sort_within, looked_up, some_node, large_field, room_more, room_whole, large_on, sort_declared, lower}
+use Rattle.law_draws.proofs.DrawFacts.{some_within, word_within, above_zero, chosen_within, drawing, each_index, in_turn_length}
 use Rattle.law_gen.proofs.draw.Maker.+draw_value.Goals as goal
 
 pub bounds-as_slice-height : goal.bounds-as_slice-height

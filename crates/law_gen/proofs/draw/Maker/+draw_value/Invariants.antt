@@ -1,8 +1,8 @@
 use Rattle.std.proofs.Common.{◌≡◌, ◌+◌, ◌-◌, map, drop}
 use Rattle.law_sig.specs.Lists.{total}
 use Rattle.law_sig.specs.Trees.{node_count}
-use Rattle.law_value.specs.Values.{IsOf, tree_of, trees_of}
-use Rattle.law_gen.specs.Draws.{value_drawn, in_turn}
+use Rattle.law_ids.specs.Values.{IsOf, tree_of, trees_of}
+use Rattle.law_draws.specs.Draws.{value_drawn, in_turn}
 use Rattle.law_gen.proofs.Turns.{Going}
 use Rattle.law_gen.proofs.draw.Maker.+draw_value.Given as goal
 

@@ -1,13 +1,14 @@
 use Rattle.std.proofs.Common.{ℕ, ◌+◌, ◌<◌, map, length, drop, sym, refl, ◌∙◌, subst, arith}
 use Rattle.law_sig.specs.Lists.{Each}
 use Rattle.law_sig.specs.declared.tree.SortId.{SortId}
-use Rattle.law_value.specs.Values.{AreOf, trees_of}
-use Rattle.law_pool.proofs.Reading.{ids_keep}
-use Rattle.law_gen.specs.Draws.{values_drawn, pool_drawn, sorts_of}
-use Rattle.law_gen.specs.Sizes.{AreSmall, HasLarge}
-use Rattle.law_gen.proofs.First.{first_from, first_past}
+use Rattle.law_ids.specs.Values.{AreOf, trees_of}
+use Rattle.law_ids.proofs.Reading.{ids_keep}
+use Rattle.law_draws.specs.Draws.{values_drawn, pool_drawn, sorts_of}
+use Rattle.law_draws.specs.Sizes.{AreSmall, HasLarge}
+use Rattle.law_draws.proofs.First.{first_from, first_past}
 use Rattle.law_gen.proofs.Turns.{going_here, going_more, going_last, each_means}
-use Rattle.law_gen.proofs.PoolFacts.{first_in, length_more, length_map, large_at}
+use Rattle.law_gen.proofs.PoolFacts.{first_in, length_more, large_at}
+use Rattle.law_ids.proofs.BankFacts.{length_map}
 use Rattle.law_gen.proofs.draw.Maker.draw_pool.Goals as goal
 
 abbrev id_of : ℕ → SortId

@@ -1,8 +1,8 @@
 use Rattle.std.proofs.Common.{◌≡◌, drop, length, map}
 use Rattle.law_sig.specs.Lists.{Each}
-use Rattle.law_value.specs.Values.{AreOf, trees_of}
-use Rattle.law_gen.specs.Draws.{values_drawn, pool_drawn, sorts_of}
-use Rattle.law_gen.specs.Sizes.{AreSmall}
+use Rattle.law_ids.specs.Values.{AreOf, trees_of}
+use Rattle.law_draws.specs.Draws.{values_drawn, pool_drawn, sorts_of}
+use Rattle.law_draws.specs.Sizes.{AreSmall}
 use Rattle.law_gen.proofs.Turns.{Going}
 use Rattle.law_gen.proofs.draw.Maker.draw_pool.Given as goal
 

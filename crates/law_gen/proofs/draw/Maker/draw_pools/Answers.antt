@@ -5,14 +5,15 @@ use Rattle.law_sig.specs.Lists.{Each}
 use Rattle.law_sig.specs.Tests.{first_of}
 use Rattle.law_sig.specs.declared.tree.Tree.{Tree}
 use Rattle.law_sig.specs.declared.parts.SigParts.{SigParts}
-use Rattle.law_value.specs.Values.{AreOf, trees_of}
-use Rattle.law_pool.specs.Table.{pools_of}
-use Rattle.law_pool.proofs.Reading.{sorts_keep}
-use Rattle.law_gen.specs.Draws.{Drawn, pool_drawn, pools_drawn, generator_of}
-use Rattle.law_gen.specs.Sizes.{AreSmall}
-use Rattle.law_gen.proofs.First.{first_from, first_past}
+use Rattle.law_ids.specs.Values.{AreOf, trees_of}
+use Rattle.law_ids.specs.Table.{pools_of}
+use Rattle.law_ids.proofs.Reading.{sorts_keep}
+use Rattle.law_draws.specs.Draws.{Drawn, pool_drawn, pools_drawn, generator_of}
+use Rattle.law_draws.specs.Sizes.{AreSmall}
+use Rattle.law_draws.proofs.First.{first_from, first_past}
 use Rattle.law_gen.proofs.Turns.{going_here, going_more, going_last, each_means}
-use Rattle.law_gen.proofs.PoolFacts.{first_of_all, length_more, length_map, too_large_on}
+use Rattle.law_gen.proofs.PoolFacts.{first_of_all, length_more, too_large_on}
+use Rattle.law_ids.proofs.BankFacts.{length_map}
 use Rattle.law_gen.proofs.draw.Maker.draw_pools.Goals as goal
 
 abbrev pool_by : SigParts → ℕ → ℕ → Lcg → Drawn (List (List Tree))

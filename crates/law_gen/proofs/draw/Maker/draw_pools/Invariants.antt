@@ -1,10 +1,10 @@
 use Rattle.std.proofs.Common.{◌≡◌, ℕ, drop, length, map}
 use Rattle.law_sig.specs.Lists.{Each}
 use Rattle.law_sig.specs.Tests.{first_of}
-use Rattle.law_value.specs.Values.{AreOf, trees_of}
-use Rattle.law_pool.specs.Table.{pools_of}
-use Rattle.law_gen.specs.Draws.{pool_drawn, pools_drawn, generator_of}
-use Rattle.law_gen.specs.Sizes.{AreSmall}
+use Rattle.law_ids.specs.Values.{AreOf, trees_of}
+use Rattle.law_ids.specs.Table.{pools_of}
+use Rattle.law_draws.specs.Draws.{pool_drawn, pools_drawn, generator_of}
+use Rattle.law_draws.specs.Sizes.{AreSmall}
 use Rattle.law_gen.proofs.Turns.{Going}
 use Rattle.law_gen.proofs.draw.Maker.draw_pools.Given as goal
 

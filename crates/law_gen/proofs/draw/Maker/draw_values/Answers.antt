@@ -5,13 +5,13 @@ use Rattle.law_sig.specs.Signature.{width_at}
 use Rattle.law_sig.specs.Tests.{first_of}
 use Rattle.law_sig.specs.declared.tree.SortId.{SortId}
 use Rattle.law_sig.specs.declared.parts.SigParts.{SigParts}
-use Rattle.law_value.specs.Values.{IsOf, tree_of, trees_of}
-use Rattle.law_pool.proofs.Reading.{id_keeps}
-use Rattle.law_gen.specs.Draws.{value_drawn, values_drawn}
-use Rattle.law_gen.specs.Sizes.{AreSmall}
-use Rattle.law_gen.proofs.First.{first_from, first_past}
+use Rattle.law_ids.specs.Values.{IsOf, tree_of, trees_of}
+use Rattle.law_ids.proofs.Reading.{id_keeps}
+use Rattle.law_draws.specs.Draws.{value_drawn, values_drawn}
+use Rattle.law_draws.specs.Sizes.{AreSmall}
+use Rattle.law_draws.proofs.First.{first_from, first_past}
 use Rattle.law_gen.proofs.Turns.{going_here, going_more, going_last, each_means}
-use Rattle.law_gen.proofs.DrawFacts.{large_on}
+use Rattle.law_gen.proofs.RoomFacts.{large_on}
 use Rattle.law_gen.proofs.PoolFacts.{width_is, large_among, small_by}
 use Rattle.law_gen.proofs.draw.Maker.draw_values.Goals as goal
 

@@ -1,9 +1,9 @@
 use Rattle.std.proofs.Common.{drop}
 use Rattle.law_sig.specs.Signature.{width_at}
 use Rattle.law_sig.specs.Tests.{first_of}
-use Rattle.law_value.specs.Values.{IsOf, tree_of, trees_of}
-use Rattle.law_gen.specs.Draws.{value_drawn, values_drawn}
-use Rattle.law_gen.specs.Sizes.{AreSmall}
+use Rattle.law_ids.specs.Values.{IsOf, tree_of, trees_of}
+use Rattle.law_draws.specs.Draws.{value_drawn, values_drawn}
+use Rattle.law_draws.specs.Sizes.{AreSmall}
 use Rattle.law_gen.proofs.Turns.{Going}
 use Rattle.law_gen.proofs.draw.Maker.draw_values.Given as goal
 

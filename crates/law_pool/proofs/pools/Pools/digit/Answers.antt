@@ -1,7 +1,7 @@
 use Rattle.std.proofs.Common.{rules, ◌+◌, ◌*◌, ◌%◌, ◌<◌, ◌≤◌, ◌^◌, take, arith, refl, ap, ap₂, ◌∙◌}
 use Rattle.law_sig.specs.Lists.{total, product}
 use Rattle.law_sig.specs.Tests.{digit_in}
-use Rattle.law_pool.specs.Table.{radices_by}
+use Rattle.law_ids.specs.Table.{radices_by}
 use Rattle.law_pool.proofs.Ways.{digit_in_ways, product_positive, radices_wide}
 use Rattle.law_pool.proofs.KeptFacts.{count_kept, few_at, has_place}
 use Rattle.law_pool.proofs.pools.Pools.digit.Goals as goal

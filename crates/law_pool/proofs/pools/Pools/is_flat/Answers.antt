@@ -1,6 +1,6 @@
 use Rattle.std.proofs.Common.{◌≡◌, ℕ, zero, suc, refl, ◌+◌, ◌<◌, ◌⊎◌, inl, inr, sym, ap, subst, arith}
 use Rattle.law_sig.specs.declared.tree.SortId.{SortId}
-use Rattle.law_pool.specs.Table.{ReadsOnePlace}
+use Rattle.law_ids.specs.Table.{ReadsOnePlace}
 use Rattle.law_pool.proofs.pools.Pools.is_flat.Goals as goal
 
 abbrev id_of : ℕ → SortId

@@ -1,7 +1,7 @@
 use Rattle.std.proofs.Common.{◌≡◌, ℕ, ◌<◌}
 use Rattle.law_sig.specs.Tests.{digit}
 use Rattle.law_sig.specs.declared.parts.SigParts.{SigParts}
-use Rattle.law_pool.specs.Table.{IsFor}
+use Rattle.law_ids.specs.Table.{IsFor}
 use Rattle.law_pool.proofs.pools.Pools.reads_one_place.Given as goal
 
 abbrev pub invariant-loop-index : goal.invariant-loop-index

@@ -1,7 +1,7 @@
 use Rattle.std.proofs.Common.{◌/◌, sym, ap, ap₂, ◌∙◌}
 use Rattle.law_sig.specs.Lists.{product}
 use Rattle.law_sig.specs.Tests.{pool_value}
-use Rattle.law_pool.specs.Table.{pools_of, radices_by}
+use Rattle.law_ids.specs.Table.{pools_of, radices_by}
 use Rattle.law_pool.proofs.KeptFacts.{count_kept}
 use Rattle.law_pool.proofs.pools.Pools.value_at.Goals as goal
 

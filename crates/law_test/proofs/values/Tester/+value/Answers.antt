@@ -2,9 +2,9 @@ use Rattle.std.proofs.Common.{sym, ap, ◌∙◌, rules}
 use Rattle.law_sig.specs.declared.tree.Tree.TheVariants.{App}
 use Rattle.law_sig.specs.declared.tree.Tree.TheViews.{the_lemmas}
 use Rattle.law_sig.specs.declared.parts.Settings.{Settings}
-use Rattle.law_eval.proofs.ResultFacts.{passed}
-use Rattle.law_pool.proofs.Reading.{grows_on}
-use Rattle.law_test.proofs.Testing.{pools_stay, args_testable, value_missing, values_next, values_all, made_value, made_none}
+use Rattle.law_ids.proofs.ResultFacts.{passed}
+use Rattle.law_ids.proofs.Reading.{grows_on}
+use Rattle.law_testing.proofs.Testing.{pools_stay, args_testable, value_missing, values_next, values_all, made_value, made_none}
 use Rattle.law_test.proofs.values.Tester.+value.Goals as goal
 
 pub value-requires : goal.value-requires

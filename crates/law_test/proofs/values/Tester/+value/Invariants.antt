@@ -1,6 +1,6 @@
 use Rattle.std.proofs.Common.{take}
-use Rattle.law_value.specs.Values.{Grows}
-use Rattle.law_test.specs.Values.{IsValue, Both}
+use Rattle.law_ids.specs.Values.{Grows}
+use Rattle.law_testing.specs.Values.{IsValue, Both}
 use Rattle.law_test.proofs.values.Tester.+value.Given as goal
 
 abbrev pub decreases-value : goal.decreases-value

@@ -1,5 +1,5 @@
 use Rattle.std.proofs.Common.{◌<◌, ◌^◌, subst}
-use Rattle.law_test.proofs.Testing.{count_is}
+use Rattle.law_testing.proofs.Testing.{count_is}
 use Rattle.law_test.proofs.values.Tester.own_tests.Goals as goal
 
 pub returns-clause-few : goal.returns-clause-few

@@ -1,4 +1,4 @@
-use Rattle.law_test.proofs.Testing.{count_is}
+use Rattle.law_testing.proofs.Testing.{count_is}
 use Rattle.law_test.proofs.values.Tester.tests.Goals as goal
 
 pub returns : goal.returns

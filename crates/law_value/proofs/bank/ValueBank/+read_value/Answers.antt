@@ -1,9 +1,10 @@
 use Rattle.std.proofs.Common.{◌≡◌, ◌<◌, ◌^◌, length, sym, ap, ◌∙◌, arith, rules}
 use Rattle.law_sig.specs.declared.tree.Tree.TheVariants.{App}
 use Rattle.law_sig.specs.declared.tree.Tree.TheViews.{the_lemmas}
-use Rattle.law_value.specs.Values.{tree_of, trees_of}
-use Rattle.law_value.proofs.BankFacts.{take_all}
-use Rattle.law_value.proofs.ReadFacts.{plain_few, plain_at, grows_on, read_next, length_map}
+use Rattle.law_ids.specs.Values.{tree_of, trees_of}
+use Rattle.law_ids.proofs.BankFacts.{take_all, length_map}
+use Rattle.law_value.proofs.ReadFacts.{plain_few, plain_at, read_next}
+use Rattle.law_ids.proofs.Reading.{grows_on}
 use Rattle.law_value.proofs.bank.ValueBank.+read_value.Goals as goal
 
 pub read_value-requires : goal.read_value-requires

@@ -1,8 +1,8 @@
 use Rattle.std.proofs.Common.{◌≡◌, ◌<◌, length, arith}
-use Rattle.law_value.specs.declared.bank.ValueId.{ValueId}
-use Rattle.law_value.specs.Values.{IsOf, tree_of, fields_of}
+use Rattle.law_ids.specs.declared.ids.ValueId.{ValueId}
+use Rattle.law_ids.specs.Values.{IsOf, tree_of, fields_of}
 use Rattle.law_value.proofs.CellFacts.{cell_field, cell_count, each_at}
-use Rattle.law_value.proofs.BankFacts.{earlier_held}
+use Rattle.law_ids.proofs.BankFacts.{earlier_held}
 use Rattle.law_value.proofs.bank.ValueBank.field.Goals as goal
 
 pub index-requires : goal.index-requires

@@ -1,11 +1,11 @@
 use Rattle.std.proofs.Common.{◌≡◌, ◌<◌, ◌^◌, ◌-◌, ◌∙◌, length, List, min, subst, sym, ap}
 use Rattle.law_sig.specs.Trees.{node_count}
 use Rattle.law_sig.specs.declared.tree.Tree.TheVariants.{App}
-use Rattle.law_value.specs.declared.bank.ValueId.{ValueId}
+use Rattle.law_ids.specs.declared.ids.ValueId.{ValueId}
 use Rattle.law_value.specs.declared.bank.Cell.{Cell}
-use Rattle.law_value.specs.Values.{AreOf, trees_of, Adds}
+use Rattle.law_ids.specs.Values.{AreOf, trees_of, Adds}
 use Rattle.law_value.specs.Cells.{AreCells, trees, tree_in}
-use Rattle.law_value.proofs.BankFacts.{node_count-App}
+use Rattle.law_ids.proofs.BankFacts.{node_count-App}
 use Rattle.law_value.proofs.CellFacts.{IsPut, put}
 use Rattle.law_value.proofs.bank.ValueBank.make.Goals as goal
 

@@ -2,7 +2,7 @@ use Rattle.std.proofs.Common.{◌≡◌, length, arith}
 use Rattle.std.proofs.lemmas.List.{length-map}
 use Rattle.law_sig.specs.Trees.{node_count}
 use Rattle.law_sig.proofs.SizeFacts.{counted_more}
-use Rattle.law_value.specs.Values.{tree_of, trees_of}
+use Rattle.law_ids.specs.Values.{tree_of, trees_of}
 use Rattle.law_value.proofs.CellFacts.{trees_item}
 use Rattle.law_value.proofs.bank.ValueBank.nodes_over.Goals as goal
 

@@ -2,7 +2,7 @@ use Rattle.std.proofs.Common.{◌+◌, map, drop}
 use Rattle.law_sig.specs.Lists.{total}
 use Rattle.law_sig.specs.Trees.{node_count}
 use Rattle.law_sig.proofs.SizeFacts.{Counted}
-use Rattle.law_value.specs.Values.{trees_of}
+use Rattle.law_ids.specs.Values.{trees_of}
 use Rattle.law_value.proofs.bank.ValueBank.nodes_over.Given as goal
 
 abbrev pub invariant-loop-field : goal.invariant-loop-field

@@ -1,8 +1,8 @@
 use Rattle.std.proofs.Common.{subst, sym}
 use Rattle.law_sig.specs.Lists.{Each}
-use Rattle.law_value.specs.Values.{tree_of}
+use Rattle.law_ids.specs.Values.{tree_of}
 use Rattle.law_value.specs.Writing.{IsPartOf}
-use Rattle.law_value.proofs.Tops.{pushed}
+use Rattle.law_ids.proofs.Tops.{pushed}
 use Rattle.law_value.proofs.WriteFacts.{opening_next, opening_done}
 use Rattle.law_value.proofs.bank.ValueBank.open.Goals as goal
 

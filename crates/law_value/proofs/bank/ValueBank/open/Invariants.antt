@@ -1,4 +1,4 @@
-use Rattle.law_value.specs.Values.{tree_of}
+use Rattle.law_ids.specs.Values.{tree_of}
 use Rattle.law_value.specs.Writing.{pieces}
 use Rattle.law_value.proofs.WriteFacts.{IsOpening}
 use Rattle.law_value.proofs.bank.ValueBank.open.Given as goal

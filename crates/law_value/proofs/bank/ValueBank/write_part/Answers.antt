@@ -1,10 +1,9 @@
-use Rattle.std.proofs.Common.{refl, subst, sym}
-use Rattle.law_value.specs.Tops.{tops}
-use Rattle.law_value.specs.Values.{tree_of}
+use Rattle.std.proofs.Common.{refl, subst, sym, ◌∷◌}
+use Rattle.law_ids.specs.Tops.{tops}
+use Rattle.law_ids.specs.Values.{tree_of}
 use Rattle.law_value.specs.Writing.{piece_of, pieces, IsAdvanced}
 use Rattle.law_value.specs.declared.bank.Part.{Part}
 use Rattle.law_value.proofs.WriteFacts.{opened_on, on_both}
-use Rattle.std.proofs.Common.{◌∷◌}
 use Rattle.law_value.proofs.bank.ValueBank.write_part.Goals as goal
 
 pub returns-in-Whole : goal.returns-in-Whole

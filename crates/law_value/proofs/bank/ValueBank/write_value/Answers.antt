@@ -1,11 +1,11 @@
 use Rattle.std.proofs.Common.{◌<◌, List, subst, sym, ap, ◌∙◌}
 use Rattle.law_sig.specs.Lists.{Each}
-use Rattle.law_value.specs.Values.{tree_of, is_plain}
+use Rattle.law_ids.specs.Values.{tree_of, is_plain}
 use Rattle.law_value.specs.Cells.{AreCells}
 use Rattle.law_sig.specs.declared.tree.Tree.{Tree}
 use Rattle.law_value.proofs.ReadFacts.{plain_of}
 use Rattle.law_value.specs.Writing.{Piece, IsPartOf, piece_of, pieces, steps_of}
-use Rattle.law_value.proofs.Tops.{pushed}
+use Rattle.law_ids.proofs.Tops.{pushed}
 use Rattle.law_value.proofs.WriteFacts.{writing_on, written}
 use Rattle.law_value.proofs.bank.ValueBank.write_value.Goals as goal
 

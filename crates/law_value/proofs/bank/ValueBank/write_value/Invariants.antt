@@ -1,5 +1,5 @@
-use Rattle.law_value.specs.Tops.{tops}
-use Rattle.law_value.specs.Values.{tree_of}
+use Rattle.law_ids.specs.Tops.{tops}
+use Rattle.law_ids.specs.Values.{tree_of}
 use Rattle.law_value.specs.Writing.{pieces, steps_of, IsWriting}
 use Rattle.law_value.proofs.bank.ValueBank.write_value.Given as goal
 

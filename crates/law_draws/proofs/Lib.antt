@@ -1,0 +1,4 @@
+pub mod First
+pub mod ChoiceFacts
+pub mod DrawFacts
+pub mod ShapeFacts

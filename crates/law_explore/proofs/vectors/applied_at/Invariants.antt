@@ -1,6 +1,0 @@
-use Rattle.std.proofs.Common.{◌≡◌, take}
-use Rattle.law_explore.specs.Values.{ids_at}
-use Rattle.law_explore.proofs.vectors.applied_at.Given as goal
-
-abbrev pub invariant-loop-place : goal.invariant-loop-place
-invariant-loop-place l = l.ids ≡ ids_at l.vectors l.test (take l.place-index l.places)

@@ -1,9 +1,0 @@
-use Rattle.law_value.specs.Values.{Grows}
-use Rattle.law_explore.specs.Values.{AreIds}
-use Rattle.law_explore.proofs.vectors.ids_of.Given as goal
-
-abbrev pub invariant-loop-test : goal.invariant-loop-test
-invariant-loop-test l = record {
-  grows : Grows l.initial.bank l.bank;
-  ids : AreIds l.tester.sig.now l.bank l.term l.test l.ids.items;
-}

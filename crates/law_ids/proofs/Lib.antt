@@ -1,0 +1,5 @@
+pub mod BankFacts
+pub mod Tops
+pub mod Reading
+pub mod GivenFacts
+pub mod ResultFacts

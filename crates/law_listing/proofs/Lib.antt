@@ -1,0 +1,13 @@
+pub mod Rising
+pub mod RowFacts
+pub mod PickFacts
+pub mod Transfer
+pub mod Picking
+pub mod Staging
+pub mod Applications
+pub mod Considered
+pub mod Instances
+pub mod SortFacts
+pub mod SchemaFacts
+pub mod InstanceFacts
+pub mod Concluding

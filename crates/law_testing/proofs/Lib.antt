@@ -1,0 +1,2 @@
+pub mod BothFacts
+pub mod Testing
