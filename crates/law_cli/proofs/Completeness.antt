@@ -4,7 +4,6 @@ use Rattle.std.proofs.lemmas.List.{length-append, append-nil}
 use Rattle.law_io.specs.Counts.{Rose}
 use Rattle.law_places.proofs.FirstFaults.{one_fault_law}
 use Rattle.law_lines.proofs.Whole.{one_text_law}
-use Rattle.law_cert_text.specs.declared.cert.Cert.{Cert}
 use Rattle.law_cert_text.proofs.NoneSpelled.{refused_is_none}
 use Rattle.law_cert_text.proofs.OneCert.{one_cert}
 use Rattle.law_faultless.proofs.OneSignature.{one_signature}

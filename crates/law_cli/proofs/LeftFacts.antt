@@ -1,18 +1,12 @@
 -- What follows from the words of a source's contract.
 use Rattle.std.proofs.Common.{ℕ, List, [], ◌++◌, Option, Some, None, arith}
 use Rattle.std.proofs.lemmas.Grind.{common_steps}
-use Rattle.std.specs.Io.KnownBytes.{Consumes, Keeps}
+use Rattle.std.specs.Io.KnownBytes.{Consumes}
 
 -- nothing read
 pub Consumes-none : (old : Option (List ℕ)) → Consumes old old []
 Consumes-none None = tt
 Consumes-none (Some xs) = grind (arith, common_steps)
-
--- what is kept was read by nothing
-pub Keeps-Consumes : (old new : Option (List ℕ)) → Keeps old new → Consumes old new []
-Keeps-Consumes None new h = tt
-Keeps-Consumes (Some xs) None h = absurd h
-Keeps-Consumes (Some xs) (Some ys) h = grind (arith, common_steps, h)
 
 -- one read after another
 pub Consumes-trans : (a b c : Option (List ℕ)) (xs ys : List ℕ) → Consumes a b xs → Consumes b c ys → Consumes a c (xs ++ ys)
