@@ -24,6 +24,8 @@ mod signatures;
 #[cfg(test)]
 mod streams;
 #[cfg(test)]
+mod terms;
+#[cfg(test)]
 mod trees;
 #[cfg(test)]
 mod types;

@@ -25,6 +25,7 @@ use Rattle.law_bank.specs.Bank.{Terms, capped}
 use Rattle.law_bank.specs.Orders.{AreComparable}
 use Rattle.law_term.specs.Variables.{Variable, holes_in, VarBefore, IsBehind, IsUpto, StandsIn, IsFirst}
 use Rattle.law_term.proofs.Bound.{drop_get}
+use Rattle.law_term.proofs.Placing.{trees_append}
 
 -- Lists around an item
 
@@ -34,10 +35,6 @@ around_item (x ∷ xs) zero d h = refl
 around_item (x ∷ xs) (suc k) d h =
     let up : suc k + 1 ≡ suc (k + 1) = omega arith in
     ap (λ l. x ∷ l) (around_item xs k d (omega arith)) ∙ ap (λ n. x ∷ (take k xs ++ slice_index_or xs k d ∷ drop n (x ∷ xs))) (sym up)
-
-pub trees_append : (xs ys : List (Bor Node)) → trees_of (xs ++ ys) ≡ trees_of xs ++ trees_of ys
-trees_append [] ys = refl
-trees_append (x ∷ xs) ys = ap (λ l. tree_of x.now ∷ l) (trees_append xs ys)
 
 -- How often a number stands
 
@@ -49,7 +46,7 @@ times_append n (x ∷ xs) ys = by (x == n) (times_append n xs ys)
     by true ih = omega (arith, ih)
     by false ih = ih
 
-times_none : (n : ℕ) (xs : List ℕ) → (times n xs ≡ 0) ⊎ In n xs
+pub times_none : (n : ℕ) (xs : List ℕ) → (times n xs ≡ 0) ⊎ In n xs
 times_none n [] = inl refl
 times_none n (x ∷ xs) = by (x == n) refl (times_none n xs)
   where

@@ -29,12 +29,12 @@ Turn = Bor Node × ℕ
 abbrev pub number_of : Turn → ℕ
 number_of turn = turn.1
 
-abbrev pub Leads : Bor Node → List Turn → Bor Node → Type 0
+abbrev pub Leads : Node → List Turn → Node → Type 0
 Leads top [] bottom = top ≡ bottom
-Leads top (turn ∷ turns) bottom = (top ≡ turn.0) × ((below : Bor Node) × (slice_get (out-Node turn.0.now).args.now turn.1 ≡ Some below) × Leads below turns bottom)
+Leads top (turn ∷ turns) bottom = (below : Bor Node) × (top ≡ turn.0.now) × (slice_get (out-Node turn.0.now).args.now turn.1 ≡ Some below) × Leads below.now turns bottom
 
-pub record IsWay (top : Bor Node) (turns : List Turn) (place : List ℕ) : Type 0 where
-  pub bottom : Bor Node
+pub record IsWay (top : Node) (turns : List Turn) (place : List ℕ) : Type 0 where
+  pub bottom : Node
   pub leads : Leads top turns bottom
   pub numbers : map number_of turns ≡ place
 
@@ -42,12 +42,12 @@ abbrev pub AllTurns : Terms → List Turn → Type 0
 AllTurns bank turns = Each (λ (turn : Turn). IsOf bank turn.0.now) turns
 
 -- on the way up again: what stands where the way now ends was changed to this term, by a new one further down
-pub record IsRising (start now : Terms) (top : Bor Node) (place : List ℕ) (new : Tree) (turns : List Turn) (here : Node) : Type 0 where
+pub record IsRising (start now : Terms) (top : Node) (place : List ℕ) (new : Tree) (turns : List Turn) (here : Node) : Type 0 where
   pub grows : Grows start now
   pub held : IsOf now here
   pub turns_held : AllTurns now turns
-  pub bottom : Bor Node
+  pub bottom : Node
   pub leads : Leads top turns bottom
   pub below : List ℕ
   pub numbers : map number_of turns ++ below ≡ place
-  pub is : IsReplaced new below (tree_of bottom.now) (tree_of here)
+  pub is : IsReplaced new below (tree_of bottom) (tree_of here)

@@ -47,7 +47,7 @@ fn way_to<'a>(
     place: &[u32],
 ) -> Result<Option<Vec<(Term<'a>, u32)>>, NoMemory>
     requires { IsOf bank.now term.now }
-    ensures { IfOk result (λ o. MatchOption o (HasNoPlace place.now (tree_of term.now)) (λ way. IsWay term.entry way.items place.now)) }
+    ensures { IfOk result (λ o. MatchOption o (HasNoPlace place.now (tree_of term.now)) (λ way. IsWay term.now way.items place.now)) }
 {
     let mut way = Vec::new(bank.alloc());
     let mut here = At { term };
