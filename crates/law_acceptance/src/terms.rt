@@ -1,4 +1,5 @@
 //! Terms that are kept once each: their ids, what calls make of them, their orders, and matching.
+use crate::banks::schema_in_its_bank;
 use crate::types::signature;
 use bumpalo::Bump;
 use law_read::read_term;
@@ -602,4 +603,17 @@ fn matched_are(alloc: Global) -> bool {
 #[test]
 fn patterns_and_terms(rt: HostRuntime) {
     assert!(rt; matched_are(rt.alloc()));
+}
+
+/// `B.7` has the schema `B.0`, asked of its own bank.
+fn schema_is(alloc: Global) -> bool {
+    match signature(alloc, SYMBOLS) {
+        Some(sig) => is_term(alloc, &sig, &schema_in_its_bank(alloc), "B.0"),
+        None => false,
+    }
+}
+
+#[test]
+fn a_term_in_its_bank(rt: HostRuntime) {
+    assert!(rt; schema_is(rt.alloc()));
 }
