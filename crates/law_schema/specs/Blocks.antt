@@ -64,11 +64,11 @@ pub record AreVariables (rules : Rules) (c : Tree) (o : Option Tree) (v : Variab
   pub within : v.next ≤ v.count
   pub last : IsLastVariable v o
 
--- the term that was given last is the one at the walk's row
-abbrev pub IsLastFilling : Stand → List Spread → Fillings → Option Tree → Type 0
-IsLastFilling Nowhere spreads f o = o ≡ None
-IsLastFilling Before spreads f o = o ≡ None
-IsLastFilling At spreads f o = (t : Tree) × (o ≡ Some t) × IsTermOf (alone (live_lists spreads f.numbers)) f.symbol f.walk.row.items t
+-- the term that was given last is the one at the walk's row, by what rows stand for
+abbrev pub IsLastAt : Stand → (List Pick → Tree → Type 0) → List Pick → Option Tree → Type 0
+IsLastAt Nowhere Of row o = o ≡ None
+IsLastAt Before Of row o = o ≡ None
+IsLastAt At Of row o = (t : Tree) × (o ≡ Some t) × Of row t
 
 pub record AreFillings (spreads : List Spread) (c : Tree) (o : Option Tree) (f : Fillings) : Type 0 where
   pub args : List Tree
@@ -77,7 +77,7 @@ pub record AreFillings (spreads : List Spread) (c : Tree) (o : Option Tree) (f :
   pub choices_are : f.walk.choices ≡ live_counts spreads f.numbers
   pub weight_is : f.walk.weight ≡ 0
   pub walk_is : IsWalk f.walk
-  pub last : IsLastFilling f.walk.stand spreads f o
+  pub last : IsLastAt f.walk.stand (IsTermOf (alone (live_lists spreads f.numbers)) f.symbol) f.walk.row.items o
 
 -- a block of the instances of a schema, of which one was given last, if any was
 abbrev pub IsBlock : Rules → List Spread → Tree → Option Tree → Block → Type 0

@@ -72,7 +72,7 @@ IsTurn turn.Spread rules spreads schema term live block = IsOpen rules spreads s
 pub record IsSound (s : Inside) : Type 0 where
   pub signature : SigParts
   pub rules_are : AreRules signature s.rules
-  pub standing : IsStanding s.rules.symbols (columns_of s.columns.items) s.place (tree_in s.schema)
+  pub standing : IsStanding s.rules (columns_of s.columns.items) s.place (tree_in s.schema)
   pub linked : AreLinked s.spreads.items (columns_of s.columns.items)
   pub shaped : AreShaped s.rules (columns_of s.columns.items)
   pub right : (parts : SigParts) → AreRules parts s.rules → IsRight parts s.spreads.items (columns_of s.columns.items) s.turn (tree_in s.schema)

@@ -21,6 +21,7 @@ use Rattle.law_listing.specs.Choices.{IsTermOf}
 use Rattle.law_listing.specs.Columns.{IsBelow}
 use Rattle.law_listing.specs.Stages.{Onward, AreHeavier}
 use Rattle.law_schema.specs.declared.rules.Rule.{Rule}
+use Rattle.law_schema.specs.declared.rules.Rules.{Rules}
 use Rattle.law_schema.specs.declared.stock.Entry.{Entry}
 use Rattle.law_schema.specs.declared.walk.Walk.{Walk}
 use Rattle.law_schema.specs.declared.walk.Stand.TheVariants.{At}
@@ -68,28 +69,29 @@ pub record IsStarted (rule : Rule) (columns : Columns) (w : ℕ) (walk : Walk) :
 -- Places
 
 -- the application that a row of picks stands for
-pub record IsApplied (symbols : List Rule) (columns : Columns) (a : Application) (row : List Pick) (t : Tree) : Type 0 where
+pub record IsApplied (rules : Rules) (columns : Columns) (a : Application) (row : List Pick) (t : Tree) : Type 0 where
   pub rule : Rule
-  pub rule_is : slice_get symbols a.rule ≡ Some rule
+  pub rule_is : slice_get rules.symbols a.rule ≡ Some rule
+  pub small : a.weight ≤ rules.size
   pub over : IsOver rule columns a.weight a.walk
   pub row_is : IsRow a.walk.choices a.walk.weight row
   pub term_is : IsTermOf (lists_below columns a.weight rule.args) rule.symbol row t
 
 -- the schema at a place, and at the one that was looked for
-abbrev pub IsAt : List Rule → Columns → Place → Tree → Type 0
-IsAt symbols columns place.Start t = ⊥
-IsAt symbols columns (place.Var sort) t = t ≡ Var sort 0
-IsAt symbols columns (place.App a) t = (a.walk.stand ≡ At) × IsApplied symbols columns a a.walk.row.items t
+abbrev pub IsAt : Rules → Columns → Place → Tree → Type 0
+IsAt rules columns place.Start t = ⊥
+IsAt rules columns (place.Var sort) t = t ≡ Var sort 0
+IsAt rules columns (place.App a) t = (a.walk.stand ≡ At) × IsApplied rules columns a a.walk.row.items t
 
-abbrev pub IsAhead : List Rule → Columns → Place → Tree → Type 0
-IsAhead symbols columns place.Start t = ⊥
-IsAhead symbols columns (place.Var sort) t = t ≡ Var sort 0
-IsAhead symbols columns (place.App a) t = IsApplied symbols columns a a.walk.next.items t
+abbrev pub IsAhead : Rules → Columns → Place → Tree → Type 0
+IsAhead rules columns place.Start t = ⊥
+IsAhead rules columns (place.Var sort) t = t ≡ Var sort 0
+IsAhead rules columns (place.App a) t = IsApplied rules columns a a.walk.next.items t
 
 -- the same where none may have been given yet
-abbrev pub IsStanding : List Rule → Columns → Place → Option Tree → Type 0
-IsStanding symbols columns place None = place ≡ place.Start
-IsStanding symbols columns place (Some t) = IsAt symbols columns place t
+abbrev pub IsStanding : Rules → Columns → Place → Option Tree → Type 0
+IsStanding rules columns place None = place ≡ place.Start
+IsStanding rules columns place (Some t) = IsAt rules columns place t
 
 abbrev pub IsConsideredAt : SigParts → List Tree → Option Tree → Type 0
 IsConsideredAt parts schemas None = Unit {0}
@@ -98,26 +100,26 @@ IsConsideredAt parts schemas (Some t) = IsConsidered parts schemas t
 -- What comes first and next
 
 -- the first one with a property stands at the place that was looked for
-abbrev pub IsFirstAhead : SigParts → List Rule → Columns → (Tree → Type 0) → List Tree → Place → Type 0
-IsFirstAhead parts symbols columns P done place = (t : Tree) × IsAhead symbols columns place t × IsFirstAbove (IsBefore parts) P done t
+abbrev pub IsFirstAhead : SigParts → Rules → Columns → (Tree → Type 0) → List Tree → Place → Type 0
+IsFirstAhead parts rules columns P done place = (t : Tree) × IsAhead rules columns place t × IsFirstAbove (IsBefore parts) P done t
 
 -- among the applications of a weight from a symbol on: where there is none, all later ones are heavier
-abbrev pub FirstRow : SigParts → List Rule → Columns → List Tree → ℕ → ℕ → Option Place → Type 0
-FirstRow parts symbols columns schemas w n r = MatchOption r (AreHeavier parts (IsConsidered parts schemas) w n)
-    (IsFirstAhead parts symbols columns (Onward parts (IsConsidered parts schemas) w 1 n) [])
+abbrev pub FirstRow : SigParts → Rules → Columns → List Tree → ℕ → ℕ → Option Place → Type 0
+FirstRow parts rules columns schemas w n r = MatchOption r (AreHeavier parts (IsConsidered parts schemas) w n)
+    (IsFirstAhead parts rules columns (Onward parts (IsConsidered parts schemas) w 1 n) [])
 
 -- among all later ones
-abbrev pub FirstApp : SigParts → List Rule → Columns → List Tree → ℕ → ℕ → Option Place → Type 0
-FirstApp parts symbols columns schemas w n r = MatchOption r (IsSpent (IsBefore parts) (Onward parts (IsConsidered parts schemas) w 1 n) [])
-    (IsFirstAhead parts symbols columns (Onward parts (IsConsidered parts schemas) w 1 n) [])
+abbrev pub FirstApp : SigParts → Rules → Columns → List Tree → ℕ → ℕ → Option Place → Type 0
+FirstApp parts rules columns schemas w n r = MatchOption r (IsSpent (IsBefore parts) (Onward parts (IsConsidered parts schemas) w 1 n) [])
+    (IsFirstAhead parts rules columns (Onward parts (IsConsidered parts schemas) w 1 n) [])
 
 -- among the variables from a sort on, and all applications
-abbrev pub FirstPlace : SigParts → List Rule → Columns → List Tree → ℕ → Option Place → Type 0
-FirstPlace parts symbols columns schemas n r = MatchOption r (IsSpent (IsBefore parts) (Onward parts (IsConsidered parts schemas) 1 0 n) [])
-    (IsFirstAhead parts symbols columns (Onward parts (IsConsidered parts schemas) 1 0 n) [])
+abbrev pub FirstPlace : SigParts → Rules → Columns → List Tree → ℕ → Option Place → Type 0
+FirstPlace parts rules columns schemas n r = MatchOption r (IsSpent (IsBefore parts) (Onward parts (IsConsidered parts schemas) 1 0 n) [])
+    (IsFirstAhead parts rules columns (Onward parts (IsConsidered parts schemas) 1 0 n) [])
 
 -- after the schema at a place
-abbrev pub GoesAhead : SigParts → List Rule → Columns → List Tree → Option Tree → Place → Ahead → Type 0
-GoesAhead parts symbols columns schemas o place ahead.Spent = IsSpent (IsBefore parts) (IsConsidered parts schemas) (given o)
-GoesAhead parts symbols columns schemas o place ahead.Beside = IsFirstAhead parts symbols columns (IsConsidered parts schemas) (given o) place
-GoesAhead parts symbols columns schemas o place (ahead.At other) = IsFirstAhead parts symbols columns (IsConsidered parts schemas) (given o) other
+abbrev pub GoesAhead : SigParts → Rules → Columns → List Tree → Option Tree → Place → Ahead → Type 0
+GoesAhead parts rules columns schemas o place ahead.Spent = IsSpent (IsBefore parts) (IsConsidered parts schemas) (given o)
+GoesAhead parts rules columns schemas o place ahead.Beside = IsFirstAhead parts rules columns (IsConsidered parts schemas) (given o) place
+GoesAhead parts rules columns schemas o place (ahead.At other) = IsFirstAhead parts rules columns (IsConsidered parts schemas) (given o) other

@@ -53,8 +53,8 @@ pub fn open(
     spreads: &[Spread<'_>],
     place: &Place,
 ) -> Result<Block, NoMemory>
-    requires { (t : Tree) × IsAt rules.now.symbols (columns_of columns.now) place.now t }
-    ensures { IfOk result (λ block. (t : Tree) → IsAt rules.now.symbols (columns_of columns.now) place.now t → AreLinked spreads.now (columns_of columns.now) → IsBlock rules.now spreads.now t None block) }
+    requires { (t : Tree) × IsAt rules.now (columns_of columns.now) place.now t }
+    ensures { IfOk result (λ block. (t : Tree) → IsAt rules.now (columns_of columns.now) place.now t → AreLinked spreads.now (columns_of columns.now) → IsBlock rules.now spreads.now t None block) }
 {
     match place {
         Place::Start => unreachable!(),
@@ -78,8 +78,8 @@ fn fillings(
     spreads: &[Spread<'_>],
     application: &Application,
 ) -> Result<Fillings, NoMemory>
-    requires { (t : Tree) × IsAt rules.now.symbols (columns_of columns.now) (Place.App application.now) t }
-    ensures { IfOk result (λ fillings. (t : Tree) → IsAt rules.now.symbols (columns_of columns.now) (Place.App application.now) t → AreLinked spreads.now (columns_of columns.now) → IsBlock rules.now spreads.now t None (Block.Apps fillings)) }
+    requires { (t : Tree) × IsAt rules.now (columns_of columns.now) (Place.App application.now) t }
+    ensures { IfOk result (λ fillings. (t : Tree) → IsAt rules.now (columns_of columns.now) (Place.App application.now) t → AreLinked spreads.now (columns_of columns.now) → IsBlock rules.now spreads.now t None (Block.Apps fillings)) }
 {
     let rule = &rules.symbols.as_slice()[application.rule];
     let mut entries = Vec::new(alloc);

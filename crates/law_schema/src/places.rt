@@ -1,11 +1,9 @@
 ghost use Rattle.std.specs.Prelude.{◌≡◌, ◌<◌, ◌≤◌, ℕ, [], length, drop, List, IfOk};
 ghost use Rattle.std.specs.Option.{MatchOption};
-ghost use Rattle.law_sig.specs.WellFormed.{IsWellFormed};
 ghost use Rattle.law_sig.specs.declared.tree.Tree.{Tree};
 ghost use Rattle.law_sig.specs.declared.parts.SigParts.{SigParts};
 ghost use Rattle.law_bank.specs.Terms.{tree_of};
 ghost use Rattle.law_bank.specs.Bank.{Terms, IsOf, Grows};
-ghost use Rattle.law_schema.specs.declared.rules.Rule.{Rule};
 ghost use Rattle.law_schema.specs.Rules.{AreBetween, AreRules};
 ghost use Rattle.law_schema.specs.Columns.{Columns, columns_of};
 ghost use Rattle.law_schema.specs.Places.{IsStarted, NoRows, IsAt, IsAhead, IsStanding, AllFiled, IsStocked, IsConsideredAt, FirstRow, FirstApp, FirstPlace, GoesAhead};
@@ -65,14 +63,15 @@ fn start(
 /// The first application of this weight, from a rule on.
 fn first_row(
     alloc: Global,
-    symbols: &[Rule],
+    rules: &Rules,
     columns: &[Vec<Seq<Entry<'_>>>],
     weight: u32,
     from: usize,
 ) -> Result<Option<Place>, NoMemory>
-    ensures { IfOk result (λ r. (parts : SigParts) (schemas : List Tree) (n : ℕ) → IsWellFormed parts → IsStocked parts schemas (columns_of columns.now) → weight ≤ parts.settings.size
-        → AreBetween parts n (length parts.symbols) (drop from symbols.now) → FirstRow parts symbols.now (columns_of columns.now) schemas weight n r) }
+    ensures { IfOk result (λ r. (parts : SigParts) (schemas : List Tree) (n : ℕ) → AreRules parts rules.now → IsStocked parts schemas (columns_of columns.now) → weight ≤ rules.now.size
+        → AreBetween parts n (length parts.symbols) (drop from rules.now.symbols) → FirstRow parts rules.now (columns_of columns.now) schemas weight n r) }
 {
+    let symbols = rules.symbols.as_slice();
     for rule in from..symbols.len() {
         if let Some(walk) = start(alloc, &symbols[rule], columns, weight)? {
             return Ok(Some(Place::App(Application { weight, rule, walk })));
@@ -90,12 +89,12 @@ fn first_app(
     from: usize,
 ) -> Result<Option<Place>, NoMemory>
     ensures { IfOk result (λ r. (parts : SigParts) (schemas : List Tree) (n : ℕ) → AreRules parts rules.now → IsStocked parts schemas (columns_of columns.now) → 1 ≤ weight → weight ≤ parts.settings.size
-        → AreBetween parts n (length parts.symbols) (drop from rules.now.symbols) → FirstApp parts rules.now.symbols (columns_of columns.now) schemas weight n r) }
+        → AreBetween parts n (length parts.symbols) (drop from rules.now.symbols) → FirstApp parts rules.now (columns_of columns.now) schemas weight n r) }
 {
     let mut at = weight;
     let mut first = from;
     loop {
-        if let Some(place) = first_row(alloc, rules.symbols.as_slice(), columns, at, first)? {
+        if let Some(place) = first_row(alloc, rules, columns, at, first)? {
             return Ok(Some(place));
         }
         if at >= rules.size {
@@ -114,7 +113,7 @@ fn first_place(
     from: u32,
 ) -> Result<Option<Place>, NoMemory>
     ensures { IfOk result (λ r. (parts : SigParts) (schemas : List Tree) → AreRules parts rules.now → IsStocked parts schemas (columns_of columns.now)
-        → FirstPlace parts rules.now.symbols (columns_of columns.now) schemas from r) }
+        → FirstPlace parts rules.now (columns_of columns.now) schemas from r) }
 {
     match first_sort(rules, from) {
         Some(sort) => Ok(Some(Place::Var(sort))),
@@ -139,11 +138,11 @@ pub fn look_ahead(
     columns: &[Vec<Seq<Entry<'_>>>],
     place: &mut Place,
 ) -> Result<Ahead, NoMemory>
-    requires { (o : Option Tree) × IsStanding rules.now.symbols (columns_of columns.now) place.old o }
-    ensures kept { (o : Option Tree) → IsStanding rules.now.symbols (columns_of columns.now) place.old o → IsStanding rules.now.symbols (columns_of columns.now) place.new o }
+    requires { (o : Option Tree) × IsStanding rules.now (columns_of columns.now) place.old o }
+    ensures kept { (o : Option Tree) → IsStanding rules.now (columns_of columns.now) place.old o → IsStanding rules.now (columns_of columns.now) place.new o }
     ensures ahead { IfOk result (λ a. (parts : SigParts) (schemas : List Tree) (o : Option Tree) → AreRules parts rules.now → IsStocked parts schemas (columns_of columns.now)
-        → IsStanding rules.now.symbols (columns_of columns.now) place.old o → IsConsideredAt parts schemas o
-        → GoesAhead parts rules.now.symbols (columns_of columns.now) schemas o place.new a) }
+        → IsStanding rules.now (columns_of columns.now) place.old o → IsConsideredAt parts schemas o
+        → GoesAhead parts rules.now (columns_of columns.now) schemas o place.new a) }
 {
     match place {
         Place::Start => Ok(at_place(first_place(alloc, rules, columns, 0)?)),
@@ -165,13 +164,13 @@ pub fn look_ahead(
 pub fn term_ahead<'a>(
     alloc: Global,
     bank: &mut TermBank<'a>,
-    symbols: &[Rule],
+    rules: &Rules,
     columns: &[Vec<Seq<Entry<'a>>>],
     place: &Place,
 ) -> Result<Term<'a>, NoMemory>
-    requires ahead { (t : Tree) × IsAhead symbols.now (columns_of columns.now) place.now t }
+    requires ahead { (t : Tree) × IsAhead rules.now (columns_of columns.now) place.now t }
     requires held { AllFiled bank.old (columns_of columns.now) }
-    ensures tree { IfOk result (λ term. (t : Tree) → IsAhead symbols.now (columns_of columns.now) place.now t → tree_of term.now ≡ t) }
+    ensures tree { IfOk result (λ term. (t : Tree) → IsAhead rules.now (columns_of columns.now) place.now t → tree_of term.now ≡ t) }
     ensures held { IfOk result (λ term. IsOf bank.new term.now) }
     ensures grows { Grows bank.old bank.new }
 {
@@ -182,7 +181,7 @@ pub fn term_ahead<'a>(
             Ok(made)
         }
         Place::App(application) => {
-            let rule = &symbols[application.rule];
+            let rule = &rules.symbols.as_slice()[application.rule];
             let mut entries = Vec::new(alloc);
             push_entries(
                 &mut entries,
@@ -198,9 +197,9 @@ pub fn term_ahead<'a>(
 }
 
 /// Goes to the place that was looked for.
-pub fn go(place: &mut Place, symbols: &[Rule], columns: &[Vec<Seq<Entry<'_>>>])
-    requires { (t : Tree) × IsAhead symbols.now (columns_of columns.now) place.old t }
-    ensures { (t : Tree) → IsAhead symbols.now (columns_of columns.now) place.old t → IsAt symbols.now (columns_of columns.now) place.new t }
+pub fn go(place: &mut Place, rules: &Rules, columns: &[Vec<Seq<Entry<'_>>>])
+    requires { (t : Tree) × IsAhead rules.now (columns_of columns.now) place.old t }
+    ensures { (t : Tree) → IsAhead rules.now (columns_of columns.now) place.old t → IsAt rules.now (columns_of columns.now) place.new t }
 {
     match place {
         Place::App(application) => application.walk.go(),

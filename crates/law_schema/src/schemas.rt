@@ -115,13 +115,12 @@ impl<'a> Schemas<'a> {
         ensures held { IfOk result (λ r. MatchOption r (Unit {0}) (λ term. IsOf bank.new term.now)) }
         ensures grows { Grows bank.old bank.new }
     {
-        let symbols = self.rules.symbols.as_slice();
         let columns = self.columns.as_slice();
         match look_ahead(self.alloc, &self.rules, columns, &mut self.place)? {
             Ahead::Spent => Ok(None),
             Ahead::Beside => {
-                let term = term_ahead(self.alloc, bank, symbols, columns, &self.place)?;
-                go(&mut self.place, symbols, columns);
+                let term = term_ahead(self.alloc, bank, &self.rules, columns, &self.place)?;
+                go(&mut self.place, &self.rules, columns);
                 self.schema = Some(term);
                 self.turn = Turn::Given;
                 self.term = None;
@@ -129,8 +128,8 @@ impl<'a> Schemas<'a> {
                 Ok(Some(term))
             }
             Ahead::At(mut place) => {
-                let term = term_ahead(self.alloc, bank, symbols, columns, &place)?;
-                go(&mut place, symbols, columns);
+                let term = term_ahead(self.alloc, bank, &self.rules, columns, &place)?;
+                go(&mut place, &self.rules, columns);
                 self.place = place;
                 self.schema = Some(term);
                 self.turn = Turn::Given;
