@@ -151,7 +151,7 @@ live_row_is spreads (n ∷ numbers) (p ∷ row) (t ∷ ts) h =
     let (b, got, same) = term_got (lives_at spreads n) p.at t (alone_got (trees_of (lives_at spreads n)) p.weight p.at t h.0) in
     ap (λ o. trees_of (present o ++ live_row spreads numbers row)) got ∙ ap₂ ◌∷◌ same (live_row_is spreads numbers row ts h.1)
 
-got_held : (bank : Terms) (bs : List (Bor Node)) (n : ℕ) (b : Bor Node) → AllOf bank bs → slice_get bs n ≡ Some b → IsOf bank b.now
+pub got_held : (bank : Terms) (bs : List (Bor Node)) (n : ℕ) (b : Bor Node) → AllOf bank bs → slice_get bs n ≡ Some b → IsOf bank b.now
 got_held bank [] n b all e = none_is b e
 got_held bank (x ∷ bs) zero b all e = subst (λ (z : Bor Node). IsOf bank z.now) (some_is x b e) all.0
 got_held bank (x ∷ bs) (suc n) b all e = got_held bank bs n b all.1 e

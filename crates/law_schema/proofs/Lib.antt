@@ -5,3 +5,4 @@ pub mod Filing
 pub mod Housing
 pub mod Filling
 pub mod Sounding
+pub mod Calls

@@ -140,6 +140,10 @@ pub record IsLeft (parts : SigParts) (schemas : List Tree) (w n at m : ℕ) : Ty
   pub down : (y : Tree) → Onward parts (IsConsidered parts schemas) at 1 m y → Onward parts (IsConsidered parts schemas) w 1 n y
   pub up : (y : Tree) → Onward parts (IsConsidered parts schemas) w 1 n y → Onward parts (IsConsidered parts schemas) at 1 m y
 
+-- which rules are left at a weight within the size, and that what is left is what was left at first
+abbrev pub HasLeft : SigParts → Rules → List Tree → ℕ → ℕ → ℕ → ℕ → Type 0
+HasLeft parts rules schemas w n at first = (at ≤ rules.size) × (m : ℕ) × AreBetween parts m (length parts.symbols) (drop first rules.symbols) × IsLeft parts schemas w n at m
+
 pub left_first : (parts : SigParts) (schemas : List Tree) (w n : ℕ) → IsLeft parts schemas w n w n
 left_first parts schemas w n = record { down = λ y h. h; up = λ y h. h }
 

@@ -66,3 +66,9 @@ pub record AreFresh (sorts size : ℕ) (columns : Columns) : Type 0 where
   pub long : length columns ≡ sorts
   pub places : (s : SortId) → s.0 < sorts → length (slice_index_or columns s.0 []) ≡ size + 1
   pub empty : (s : SortId) (k : ℕ) → bucket columns s k ≡ []
+
+-- Private words
+
+-- nothing in any bucket
+abbrev pub AreBare : List (List Entry) → Type 0
+AreBare column = (k : ℕ) → slice_index_or column k [] ≡ []

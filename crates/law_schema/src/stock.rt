@@ -1,5 +1,5 @@
-ghost use Rattle.std.specs.Prelude.{◌≡◌, ◌++◌, ◌∷◌, [], length, slice_get, IfOk, OnOk, OnErr};
-ghost use Rattle.law_schema.specs.Columns.{columns_of, bucket, sizes_below, counts_below, entries_of, schemas_in, numbers_in, filed, HasPlace, AreFresh};
+ghost use Rattle.std.specs.Prelude.{◌≡◌, ◌+◌, ◌<◌, ◌++◌, ◌∷◌, [], length, map, take, slice_get, slice_set, slice_index_or, IfOk, OnOk, OnErr};
+ghost use Rattle.law_schema.specs.Columns.{columns_of, bucket, sizes_below, counts_below, entries_of, schemas_in, numbers_in, filed, HasPlace, AreFresh, AreBare};
 ghost use Rattle.law_schema.specs.Spreads.{lives_at, live_row, live_counts};
 
 use law_bank::Term;
@@ -23,7 +23,8 @@ pub struct Entry<'a> {
 
 /// A sort's column without spread schemas, for weights up to this one.
 fn empty_column<'a>(alloc: Global, size: u32) -> Result<Vec<Seq<Entry<'a>>>, NoMemory>
-    ensures { IfOk result (λ column. IsBare size column.items) }
+    ensures long { IfOk result (λ column. length column.items ≡ size + 1) }
+    ensures bare { IfOk result (λ column. AreBare column.items) }
 {
     let mut column = Vec::new(alloc);
     for _weight in 0..size as usize + 1 {
