@@ -3,7 +3,7 @@ use Rattle.std.proofs.Common.{◌≡◌, ◌<◌, ◌==◌, eqb-true, eq-eqb, �
 use Rattle.law_sig.specs.Lists.{In, Each, Rising}
 use Rattle.law_sig.specs.Lists.In.{here, there}
 use Rattle.law_sig.specs.Trees.{substituted}
-use Rattle.law_sig.specs.Chains.{end_side}
+use Rattle.law_sig.specs.Chains.{bound_in, start_side, end_side}
 use Rattle.law_sig.specs.declared.tree.Tree.{Tree}
 use Rattle.law_sig.specs.declared.parts.Equation.{Equation}
 use Rattle.law_sig.specs.declared.parts.SigParts.{SigParts}
@@ -11,12 +11,9 @@ use Rattle.law_sig.specs.declared.chain.Dir.{Dir}
 use Rattle.law_sig.specs.declared.chain.Step.{Step}
 use Rattle.law_laws.proofs.BodyFacts.{some_is}
 use Rattle.law_laws.proofs.ListFacts.{of_each, rising_both, each_all}
-use Rattle.law_rewriting.specs.Heads.{sorts_in}
-use Rattle.law_rewriting.specs.Unifiers.{HasNoMatch}
-use Rattle.law_rewriting.specs.Steps.{Rules, Earlier, Reduces}
+use Rattle.law_rewriting.specs.Steps.{Rules, Applies, Earlier, Reduces}
 use Rattle.law_rewriting.specs.Roots.{at_root, IsRootStep, HasNoRootStep, AppliesNot}
-use Rattle.law_rewriting.proofs.Places.{numbers_decided}
-use Rattle.law_rewriting.proofs.Rooted.{no_match_fails}
+use Rattle.law_rewriting.proofs.Places.{numbers_decided, at_root as root_source}
 use Rattle.law_bank.specs.Bindings.{binds_of, subst_of}
 use Rattle.law_term.specs.declared.equation.EqId.{EqId}
 use Rattle.law_match.specs.Directed.{equation_of}
@@ -25,7 +22,7 @@ use Rattle.law_index.specs.declared.hit.Hit.{Hit}
 use Rattle.law_index.specs.declared.side.Rule.{Rule}
 use Rattle.law_index.specs.declared.side.Side.{Side}
 use Rattle.law_index.specs.declared.choose.Taken.{Taken}
-use Rattle.law_index.specs.Sides.{entry_of, entries_of, AreEnough, SideBefore, FailsBy, HitsBy, NeverMatches}
+use Rattle.law_index.specs.Sides.{entry_of, entries_of, AreEnough, SideBefore, FailsBy, HitsBy}
 use Rattle.law_index.specs.Chosen.{IsTaken, IsFirst}
 use Rattle.law_index.proofs.Applying.{start_is}
 
@@ -102,12 +99,13 @@ module _ (parts : SigParts) (rules : List Rule) (t : Tree) (sides : List Side) (
     not_failing f = fails (f found.rule found.there)
 
     pub in_sides : In own_side sides
-    in_sides = by (enough found.at found.rule step.dir found.there)
+    in_sides = enough found.at found.rule step.dir found.there (bound_in step.binds) (ap (substituted (bound_in step.binds)) (start_is step.dir found.rule.eqn ∙ ap (start_side step.dir) (sym found.is)) ∙ source)
       where
-        by : In {A = Side} (record { at = found.at; dir = step.dir }) sides ⊎ NeverMatches found.rule step.dir t → In own_side sides
-        by (inl k) = k
-        by (inr n) = absurd (fails (no_match_fails parts (equation_of found.rule.eqn) step.dir t
-            (subst (λ z. HasNoMatch (sorts_in parts) z t) (start_is step.dir found.rule.eqn) (n (sorts_in parts)))))
+        at_top : Applies parts h.equation (at_root step.number step.dir step.binds) t u
+        at_top = subst (λ z. Applies parts h.equation z t u) (λ j. let x : Step = record { place = root j; number = step.number; dir = step.dir; binds = step.binds } in x) h.applies
+
+        source : substituted (bound_in step.binds) (start_side step.dir h.equation) ≡ t
+        source = sym (root_source at_top.rewrites).0
 
     -- what is earlier by its number is so by its place
     pub earlier_side : (side : Side) (rule : Rule) → slice_get rules side.at ≡ Some rule → Earlier step.number step.dir rule.eq.0 side.dir → SideBefore own_side side

@@ -1,11 +1,10 @@
 -- The rules of an index, and the sides that may match a term.
 use Rattle.std.specs.Prelude.{◌≡◌, ◌<◌, ◌⊎◌, ℕ, List, map, Some, slice_get}
 use Rattle.law_sig.specs.Lists.{In, Each, Rising}
+use Rattle.law_sig.specs.Trees.{Subst, substituted}
 use Rattle.law_sig.specs.declared.tree.Tree.{Tree}
 use Rattle.law_sig.specs.declared.parts.SigParts.{SigParts}
 use Rattle.law_sig.specs.declared.chain.Dir.{Dir}
-use Rattle.law_rewriting.specs.Heads.{Sorts}
-use Rattle.law_rewriting.specs.Unifiers.{HasNoMatch}
 use Rattle.law_rewriting.specs.Steps.{Forward}
 use Rattle.law_rewriting.specs.Roots.{AppliesNot}
 use Rattle.law_bank.specs.Terms.{tree_of}
@@ -42,18 +41,14 @@ pub record AreRules (rules : List Rule) : Type 0 where
 abbrev pub start_of : Rule → Dir → Tree
 start_of rule d = tree_of (directed d rule.eqn).left.now
 
--- no substitution gives the term, whatever the sorts of symbols are
-abbrev pub NeverMatches : Rule → Dir → Tree → Type 0
-NeverMatches rule d t = (r : Sorts) → HasNoMatch r (start_of rule d) t
-
--- each side is among these, or doesn't match the term
+-- each side of which the term is an instance is among these
 abbrev pub AreEnough : List Rule → Tree → List Side → Type 0
-AreEnough rules t sides = (at : ℕ) (rule : Rule) (d : Dir) → slice_get rules at ≡ Some rule → In {A = Side} (record { at = at; dir = d }) sides ⊎ NeverMatches rule d t
+AreEnough rules t sides = (at : ℕ) (rule : Rule) (d : Dir) → slice_get rules at ≡ Some rule → (σ : Subst) → substituted σ (start_of rule d) ≡ t → In {A = Side} (record { at = at; dir = d }) sides
 
--- the same of one side, which may have been put behind others
+-- so is one side, which may have been put behind others
 pub record IsEnoughOf (rule : Rule) (t : Tree) (at : ℕ) (d : Dir) (old new : List Side) : Type 0 where
   pub kept : (side : Side) → In side old → In side new
-  pub added : In {A = Side} (record { at = at; dir = d }) new ⊎ NeverMatches rule d t
+  pub added : (σ : Subst) → substituted σ (start_of rule d) ≡ t → In {A = Side} (record { at = at; dir = d }) new
 
 -- by the place of the equation, and then from left to right
 abbrev pub SideBefore : Side → Side → Type 0
