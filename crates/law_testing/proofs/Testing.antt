@@ -121,16 +121,6 @@ pub value_missing : (parts : SigParts) (test : ℕ) (term : Tree) (f : SymId) (a
 value_missing parts test term f args at t is less there none =
     ap (val_by parts test) is ∙ application_missing parts test f args at t (slice_get-get_or args at t less ∙ ap Some (sym there)) none
 
--- one argument more
-pub values_next : (parts : SigParts) (old new : List Tree) (test : ℕ) (args : List Tree) (at : ℕ) (t : Tree) (ids more : List ValueId) (v : ValueId)
-    → Both (IsValue parts old test) (take at args) ids → Grows old new → at < length args → t ≡ slice_index_or args at t → IsValue parts new test t v
-    → more ≡ ids ++ v ∷ [] → Both (IsValue parts new test) (take (at + 1) args) more
-values_next parts old new test args at t ids more v both grows less there is e =
-    subst (Both (IsValue parts new test) (take (at + 1) args)) (sym e)
-    (subst (λ l. Both (IsValue parts new test) l (ids ++ v ∷ [])) (sym (take_next args at t less there))
-    (both_more (IsValue parts new test) (take at args) ids t v
-    (both_map (IsValue parts old test) (IsValue parts new test) (λ s w k. value_stays parts old new test s w grows k) (take at args) ids both) is))
-
 -- all arguments
 pub record HasValues (parts : SigParts) (bank : List Tree) (test : ℕ) (term : Tree) (f : SymId) (ids : List ValueId) : Type 0 where
   pub held : AreOf bank ids
@@ -148,17 +138,3 @@ values_all parts well bank test term f args at ids own is testable end both same
       few = omega arith;
       value = ap (val_by parts test) is ∙ application_value parts bank test f args ids all;
     })
-
--- the value of an application within the budget, and none where it is over
-pub made_value : (parts : SigParts) (old new : List Tree) (test : ℕ) (term : Tree) (f : SymId) (ids : List ValueId) (budget cost : ℕ) (v : ValueId) → HasValues parts old test term f ids
-    → budget ≡ parts.settings.budget → IsOf new v → applied parts f (trees_of old ids) budget ≡ Some (record { value = tree_of new v; cost = cost })
-    → IsValue parts new test term v
-made_value parts old new test term f ids budget cost v values is held e = record {
-  held = held;
-  is = values.value ∙ ap (λ b. option_map (λ (m : Made). m.value) (applied parts f (trees_of old ids) b)) (sym is) ∙ ap (option_map (λ (m : Made). m.value)) e;
-}
-
-pub made_none : (parts : SigParts) (old : List Tree) (test : ℕ) (term : Tree) (f : SymId) (ids : List ValueId) (budget : ℕ) → HasValues parts old test term f ids
-    → budget ≡ parts.settings.budget → applied parts f (trees_of old ids) budget ≡ None → val_by parts test term ≡ None
-made_none parts old test term f ids budget values is e =
-    values.value ∙ ap (λ b. option_map (λ (m : Made). m.value) (applied parts f (trees_of old ids) b)) (sym is) ∙ ap (option_map (λ (m : Made). m.value)) e

@@ -1,4 +1,4 @@
-ghost use Rattle.std.specs.Prelude.{◌≡◌, ℕ, ◌<◌, ◌^◌, ◌+◌, ◌-◌, ◌↔◌, List, [], ◌∷◌, length, map, min, take, drop, slice_get, IfOk, OnOk, OnErr, IsTrue, Some};
+ghost use Rattle.std.specs.Prelude.{◌≡◌, ℕ, ◌<◌, ◌^◌, ◌+◌, ◌-◌, ◌↔◌, List, [], ◌∷◌, length, map, min, take, drop, slice_get, IfSome, IfOk, OnOk, OnErr, IsTrue, Some};
 ghost use Rattle.law_sig.specs.Lists.{Each, total};
 ghost use Rattle.law_sig.specs.Trees.{node_count};
 ghost use Rattle.law_sig.specs.declared.tree.Tree.{Tree};
@@ -8,7 +8,7 @@ ghost use Rattle.law_ids.specs.Tops.{tops};
 ghost use Rattle.law_value.specs.Writing.{piece_of, pieces, IsPartOf, IsOpened, IsAdvanced};
 ghost use Rattle.law_ids.specs.Values.{IsOf, AreOf, tree_of, trees_of, head_of, fields_of, IsShared, Grows, Adds, is_plain};
 
-use indexmap::IndexSet;
+use indexmap::{Equivalent, IndexSet};
 use law_ids::ValueId;
 use law_sig::{NoMemory, Seq, SymId, Tree};
 use std::alloc::Global;
@@ -16,11 +16,39 @@ use std::marker::Model;
 
 /// A value by its constructor and its fields. The number of its nodes, which these determine, is kept beside them;
 /// it is 2^64 - 1 where it is that or more.
-#[derive(Debug, PartialEq, Eq, Hash, Drop)]
+#[derive(Drop)]
+#[derive_where(Debug, PartialEq, Eq, Hash)]
 struct Cell {
     sym: SymId,
     fields: Vec<ValueId>,
+    #[derive_where(skip(EqHashOrd))]
     nodes: u64,
+}
+
+/// What a cell is looked up by, without a row of its own.
+#[derive(Clone, Copy, PartialEq, Eq, Hash)]
+struct Wanted<'f> {
+    sym: SymId,
+    fields: &'f [ValueId],
+}
+
+impl<'f> Equivalent<Cell> for Wanted<'f> {
+    ghost use Rattle.std.specs.Prelude.{◌==◌, ◌&&◌, ◌++◌};
+    ghost use Rattle.std.specs.Cmp.{first_so, second_so, nat_eq_equiv, on_equiv};
+    ghost use Rattle.std.specs.Cmp.Lexicographic.{pointwise, lists_equiv};
+    ghost use Rattle.std.specs.Hash.{items_Alike};
+    ghost use Rattle.law_ids.specs.declared.ids.ValueId.{ValueId};
+    ghost use Rattle.law_value.specs.Cells.{same_id, has_parts};
+
+    ghost equivalent = { λ q k. has_parts q.sym q.fields.now k };
+
+    ghost respects_hash = { λ q k h i. ⟦<SymId as Hash>⟧.respects_eq q.sym k.sym (first_so (q.sym.0 == k.sym.0) (pointwise same_id q.fields.now k.fields.items) h) i ++ (items_Alike (record { fed = ⟦<ValueId as Hash>⟧.respects_eq })).fed q.fields.now k.fields.items (second_so (q.sym.0 == k.sym.0) (pointwise same_id q.fields.now k.fields.items) h) i };
+
+    ghost respects_eq = { λ q x y h i. nat_eq_equiv.congr q.sym.0 x.sym.0 y.sym.0 (first_so (q.sym.0 == x.sym.0) (pointwise same_id q.fields.now x.fields.items) h) i && (lists_equiv (on_equiv (λ (v : ValueId). v.0) nat_eq_equiv)).congr q.fields.now x.fields.items y.fields.items (second_so (q.sym.0 == x.sym.0) (pointwise same_id q.fields.now x.fields.items) h) i };
+
+    fn equivalent(&self, key: &Cell) -> bool {
+        self.sym == key.sym && self.fields == key.fields.as_slice()
+    }
 }
 
 /// Something that is left to do while a value is written: the tree of a value, or a symbol over so many of the trees
@@ -140,7 +168,19 @@ impl ValueBank {
         count
     }
 
-    /// The value that a constructor makes of these fields. A value that the bank has already keeps its id.
+    /// The id of the value that a constructor makes of these fields, where the bank has it.
+    fn known(&self, sym: SymId, fields: &[ValueId]) -> Option<ValueId>
+        ensures id { IfSome result (λ v. IsOf self.now v) }
+        ensures tree { IfSome result (λ v. tree_of self.now v ≡ App sym (trees_of self.now fields.now)) }
+        ensures shared { IsShared self.now }
+    {
+        match self.cells.get_index_of(Wanted { sym, fields }) {
+            Some(at) => Some(ValueId(at as u64)),
+            None => None,
+        }
+    }
+
+    /// The value that a constructor makes of these fields. A value that the bank has already keeps its id, and takes no memory.
     pub fn make(&mut self, sym: SymId, fields: &[ValueId]) -> Result<ValueId, NoMemory>
         requires held { AreOf self.old fields.now }
         requires few { length fields.now < 2 ^ 32 }
@@ -151,6 +191,9 @@ impl ValueBank {
         ensures shared { IsShared self.new }
         ensures err { OnErr result (self.new ≡ self.old) }
     {
+        if let Some(known) = self.known(sym, fields) {
+            return Ok(known);
+        }
         let nodes = self.nodes_over(fields);
         let Ok(fields) = Vec::from_slice(self.alloc, fields) else {
             return Err(NoMemory);
