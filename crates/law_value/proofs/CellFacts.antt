@@ -1,6 +1,7 @@
 -- What adding a cell to a table of cells does to the trees.
 use Rattle.std.proofs.Common.{◌≡◌, ℕ, zero, suc, ◌+◌, ◌-◌, ◌<◌, ◌^◌, ◌⊎◌, inl, inr, min, List, [], ◌∷◌, ◌++◌, length, Bool, true, false, ◌&&◌, ◌||◌, if◌then◌else◌, Some, slice_get, position, get_or, true≢false, refl, sym, ap, subst, subst₂, ◌∙◌, arith, length-append, append-nil, slice_index_or, option_map}
-use Rattle.std.proofs.lemmas.List.{length-map, position-Some}
+use Rattle.std.proofs.lemmas.List.{length-map}
+use Rattle.std.proofs.lemmas.List.Quantifiers.{position-Some}
 use Rattle.std.proofs.lemmas.Bool.{eqb-true, eq-eqb}
 use Rattle.indexmap.specs.IndexSet.{insert_key}
 use Rattle.std.proofs.lemmas.Option.{slice_get-map, slice_get_read, slice_get-get_or, slice_get_within}
@@ -103,8 +104,7 @@ known_is bank (first ∷ others) f ids at are e =
     let cell = get_or cells at first in
     let v : ValueId = record { 0 = at } in
     let is = are.each at cell (slice_get-get_or cells at first found.0) in
-    let parts = parts_same f ids cell found.1 in
-    (
+    let parts = parts_same f ids cell found.1 in (
       omega (arith, are.one_each, found.0),
       cell_tree bank v cell is ∙ ap (λ g. App g (trees_of bank cell.fields.items)) (sym parts.0) ∙ ap (λ l. App f (trees_of bank l)) (sym parts.1),
     )

@@ -1,14 +1,14 @@
-ghost use Rattle.std.specs.Prelude.{◌≡◌, ℕ, ◌<◌, ◌^◌, ◌+◌, ◌-◌, ◌↔◌, List, [], ◌∷◌, length, map, min, take, drop, slice_get, IfSome, IfOk, OnOk, OnErr, IsTrue, Some};
+ghost use Rattle.std.specs.Prelude.{◌≡◌, ℕ, ◌<◌, ◌^◌, ◌+◌, ◌-◌, ◌↔◌, List, [], ◌∷◌, length, map, min, take, drop, slice_get, position, IfOk, OnOk, OnErr, IsTrue, Some};
 ghost use Rattle.law_sig.specs.Lists.{Each, total};
 ghost use Rattle.law_sig.specs.Trees.{node_count};
 ghost use Rattle.law_sig.specs.declared.tree.Tree.{Tree};
 ghost use Rattle.law_sig.specs.declared.tree.Tree.TheVariants.{App};
-ghost use Rattle.law_value.specs.Cells.{IsCell};
+ghost use Rattle.law_value.specs.Cells.{IsCell, has_parts};
 ghost use Rattle.law_ids.specs.Tops.{tops};
 ghost use Rattle.law_value.specs.Writing.{piece_of, pieces, IsPartOf, IsOpened, IsAdvanced};
 ghost use Rattle.law_ids.specs.Values.{IsOf, AreOf, tree_of, trees_of, head_of, fields_of, IsShared, Grows, Adds, is_plain};
 
-use indexmap::{Equivalent, IndexSet};
+use indexmap::IndexSet;
 use law_ids::ValueId;
 use law_sig::{NoMemory, Seq, SymId, Tree};
 use std::alloc::Global;
@@ -25,32 +25,6 @@ struct Cell {
     nodes: u64,
 }
 
-/// What a cell is looked up by, without a row of its own.
-#[derive(Clone, Copy, PartialEq, Eq, Hash)]
-struct Wanted<'f> {
-    sym: SymId,
-    fields: &'f [ValueId],
-}
-
-impl<'f> Equivalent<Cell> for Wanted<'f> {
-    ghost use Rattle.std.specs.Prelude.{◌==◌, ◌&&◌, ◌++◌};
-    ghost use Rattle.std.specs.Cmp.{first_so, second_so, nat_eq_equiv, on_equiv};
-    ghost use Rattle.std.specs.Cmp.Lexicographic.{pointwise, lists_equiv};
-    ghost use Rattle.std.specs.Hash.{items_Alike};
-    ghost use Rattle.law_ids.specs.declared.ids.ValueId.{ValueId};
-    ghost use Rattle.law_value.specs.Cells.{same_id, has_parts};
-
-    ghost equivalent = { λ q k. has_parts q.sym q.fields.now k };
-
-    ghost respects_hash = { λ q k h i. ⟦<SymId as Hash>⟧.respects_eq q.sym k.sym (first_so (q.sym.0 == k.sym.0) (pointwise same_id q.fields.now k.fields.items) h) i ++ (items_Alike (record { fed = ⟦<ValueId as Hash>⟧.respects_eq })).fed q.fields.now k.fields.items (second_so (q.sym.0 == k.sym.0) (pointwise same_id q.fields.now k.fields.items) h) i };
-
-    ghost respects_eq = { λ q x y h i. nat_eq_equiv.congr q.sym.0 x.sym.0 y.sym.0 (first_so (q.sym.0 == x.sym.0) (pointwise same_id q.fields.now x.fields.items) h) i && (lists_equiv (on_equiv (λ (v : ValueId). v.0) nat_eq_equiv)).congr q.fields.now x.fields.items y.fields.items (second_so (q.sym.0 == x.sym.0) (pointwise same_id q.fields.now x.fields.items) h) i };
-
-    fn equivalent(&self, key: &Cell) -> bool {
-        self.sym == key.sym && self.fields == key.fields.as_slice()
-    }
-}
-
 /// Something that is left to do while a value is written: the tree of a value, or a symbol over so many of the trees
 /// that are written.
 #[derive(Clone, Copy)]
@@ -59,11 +33,13 @@ enum Part {
     Join(SymId, u32),
 }
 
-/// Values, each kept once. Contracts see a bank as the list of its values, each at the place that its id names.
+/// Values, each kept once. Contracts see a bank as the list of its values, each at the place that its id names. `wanted` is
+/// the cell that was looked for last; its room is kept for the next one.
 #[derive(Debug, Drop)]
 pub struct ValueBank {
     alloc: Global,
     cells: IndexSet<Cell>,
+    wanted: Cell,
 }
 
 impl Model for ValueBank {
@@ -90,6 +66,11 @@ impl ValueBank {
         ValueBank {
             alloc,
             cells: IndexSet::new(alloc),
+            wanted: Cell {
+                sym: SymId(0),
+                fields: Vec::new(alloc),
+                nodes: 0,
+            },
         }
     }
 
@@ -168,19 +149,8 @@ impl ValueBank {
         count
     }
 
-    /// The id of the value that a constructor makes of these fields, where the bank has it.
-    fn known(&self, sym: SymId, fields: &[ValueId]) -> Option<ValueId>
-        ensures id { IfSome result (λ v. IsOf self.now v) }
-        ensures tree { IfSome result (λ v. tree_of self.now v ≡ App sym (trees_of self.now fields.now)) }
-        ensures shared { IsShared self.now }
-    {
-        match self.cells.get_index_of(Wanted { sym, fields }) {
-            Some(at) => Some(ValueId(at as u64)),
-            None => None,
-        }
-    }
-
-    /// The value that a constructor makes of these fields. A value that the bank has already keeps its id, and takes no memory.
+    /// The value that a constructor makes of these fields. A value that the bank has already keeps its id, and takes
+    /// no memory but the room in which it is looked for.
     pub fn make(&mut self, sym: SymId, fields: &[ValueId]) -> Result<ValueId, NoMemory>
         requires held { AreOf self.old fields.now }
         requires few { length fields.now < 2 ^ 32 }
@@ -191,9 +161,26 @@ impl ValueBank {
         ensures shared { IsShared self.new }
         ensures err { OnErr result (self.new ≡ self.old) }
     {
-        if let Some(known) = self.known(sym, fields) {
-            return Ok(known);
+        let Ok(known) = find(&self.cells, &mut self.wanted, sym, fields) else {
+            return Err(NoMemory);
+        };
+        match known {
+            Some(place) => Ok(ValueId(place as u64)),
+            None => self.add(sym, fields),
         }
+    }
+
+    /// The same, with a cell that is made anew.
+    fn add(&mut self, sym: SymId, fields: &[ValueId]) -> Result<ValueId, NoMemory>
+        requires held { AreOf self.old fields.now }
+        requires few { length fields.now < 2 ^ 32 }
+        ensures id { IfOk result (λ v. IsOf self.new v) }
+        ensures tree { IfOk result (λ v. tree_of self.new v ≡ App sym (trees_of self.old fields.now)) }
+        ensures adds { OnOk result (Adds self.old self.new (App sym (trees_of self.old fields.now))) }
+        ensures grows { Grows self.old self.new }
+        ensures shared { IsShared self.new }
+        ensures err { OnErr result (self.new ≡ self.old) }
+    {
         let nodes = self.nodes_over(fields);
         let Ok(fields) = Vec::from_slice(self.alloc, fields) else {
             return Err(NoMemory);
@@ -283,6 +270,23 @@ impl ValueBank {
         }
         Ok(())
     }
+}
+
+/// The place of the cell with these parts, which is looked for by a cell that is made in its own room.
+fn find(
+    cells: &IndexSet<Cell>,
+    wanted: &mut Cell,
+    sym: SymId,
+    fields: &[ValueId],
+) -> Result<Option<usize>, NoMemory>
+    ensures { IfOk result (λ at. at ≡ position (has_parts sym fields.now) cells.now.keys) }
+{
+    wanted.sym = sym;
+    wanted.fields.clear();
+    let Ok(()) = wanted.fields.extend_from_slice(fields) else {
+        return Err(NoMemory);
+    };
+    Ok(cells.get_index_of(&*wanted))
 }
 
 /// Makes one tree of the last ones written, of which the first field is the last.
