@@ -1,6 +1,7 @@
 //! Worked examples over the public calls of all crates, in tables, with values from outside. Nothing stands on this crate.
 #![tactic(auto)]
 
+pub mod banks;
 #[cfg(test)]
 mod certificates;
 #[cfg(test)]
@@ -23,6 +24,8 @@ mod samples;
 mod signatures;
 #[cfg(test)]
 mod streams;
+#[cfg(test)]
+mod terms;
 #[cfg(test)]
 mod trees;
 #[cfg(test)]

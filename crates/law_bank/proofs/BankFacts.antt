@@ -113,7 +113,7 @@ heads_same (Var s i) (Sym g) ss ts p q e = absurd (var_no_app s i g ts e)
 heads_same (Sym f) (Var t j) ss ts p q e = absurd (var_no_app t j f ss (sym e))
 heads_same (Sym f) (Sym g) ss ts p q e = let r = same_app f g ss ts e in (ap Sym r.0, r.1)
 
-fits_trees : (h : Head) (bs : List (Bor Node)) → Fits h bs → Fits h (trees_of bs)
+pub fits_trees : (h : Head) (bs : List (Bor Node)) → Fits h bs → Fits h (trees_of bs)
 fits_trees (Var s i) bs e = ap trees_of e
 fits_trees (Sym f) bs e = tt
 

@@ -4,7 +4,7 @@
 
 mod node;
 
-ghost use Rattle.law_bank.specs.Laws.{TermsStay, SameIdSameTree, SameTreeSameId, BindingIsPut, BindingsRise};
+ghost use Rattle.law_bank.specs.Laws.{TermsStay, SameIdSameTree, SameTreeSameId, BindingIsPut, BindingsRise, KDecided, KboDecided, ArgumentsAreComparable};
 
 pub use node::{Head, Node, Term};
 
@@ -19,4 +19,11 @@ pub fn bank_laws()
 pub fn binding_laws()
     ensures put { BindingIsPut }
     ensures rising { BindingsRise }
+{}
+
+/// Two terms of one bank are compared by their roots, and then by the first arguments that are different terms.
+pub fn order_laws()
+    ensures k { KDecided }
+    ensures kbo { KboDecided }
+    ensures arguments { ArgumentsAreComparable }
 {}

@@ -1,7 +1,13 @@
 pub mod Items
 pub mod Interning
+pub mod Firsts
 pub mod Walking
+pub mod Listing
 pub mod Bound
 pub mod Placing
+pub mod Counting
+pub mod Covering
+pub mod Comparing
+pub mod Numbering
 pub mod Turns
 pub mod ReadFacts

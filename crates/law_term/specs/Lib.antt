@@ -1,6 +1,10 @@
 pub mod Keys
 pub mod Inside
+pub mod Variables
+pub mod Equations
+pub mod Pairs
 pub mod Walks
 pub mod Substs
 pub mod Places
+pub mod Numbers
 pub mod Turns
