@@ -1,5 +1,5 @@
 -- The values of terms at tests, in a bank that grows.
-use Rattle.std.proofs.Common.{◌≡◌, ℕ, zero, suc, ◌+◌, ◌^◌, ◌<◌, ◌≤◌, ◌++◌, take, slice_get, slice_index_or, Option, Some, None, List, [], ◌∷◌, map, length, IsTrue, option_map, option_and_then, sym, refl, ap, ◌∙◌, subst, arith}
+use Rattle.std.proofs.Common.{◌≡◌, ℕ, zero, suc, ◌^◌, ◌<◌, ◌≤◌, take, slice_get, slice_index_or, Option, Some, None, List, [], ◌∷◌, map, length, IsTrue, option_map, option_and_then, sym, refl, ap, ◌∙◌, subst, arith}
 use Rattle.std.proofs.lemmas.Option.{slice_get-get_or}
 use Rattle.law_sig.specs.Lists.{Each}
 use Rattle.law_sig.specs.Signature.{args_of}
@@ -16,13 +16,13 @@ use Rattle.law_laws.proofs.Renaming.{vars-App}
 use Rattle.law_laws.proofs.Sorts.{HaveSorts, sorted_app}
 use Rattle.law_laws.proofs.TreeFacts.{val-App}
 use Rattle.law_ids.specs.declared.ids.ValueId.{ValueId}
-use Rattle.law_ids.specs.Values.{IsOf, AreOf, tree_of, trees_of, Grows}
+use Rattle.law_ids.specs.Values.{AreOf, tree_of, trees_of, Grows}
 use Rattle.law_ids.specs.Table.{PoolTable, IsFor, pools_of}
 use Rattle.law_ids.proofs.BankFacts.{take_all}
-use Rattle.law_ids.proofs.Reading.{list_keeps, sorts_keep, id_keeps, each_at, take_next}
+use Rattle.law_ids.proofs.Reading.{list_keeps, sorts_keep, id_keeps, each_at}
 use Rattle.law_draws.specs.Draws.{pools_by}
 use Rattle.law_testing.specs.Values.{ArePools, IsTestable, IsValue, Both, tests_by, val_by, applied_value}
-use Rattle.law_testing.proofs.BothFacts.{both_more, both_map, both_long}
+use Rattle.law_testing.proofs.BothFacts.{both_long}
 
 -- Pools and values stay when the bank grows
 
