@@ -24,7 +24,7 @@ use Rattle.law_bank.specs.Terms.{tree_of, id_of}
 use Rattle.law_bank.specs.Bank.{Terms, IsOf, IsShared, Grows, sorts_by}
 use Rattle.law_bank.specs.Bindings.{Binding, bind_of, binds_of, subst_of, AllBound}
 use Rattle.law_bank.proofs.BankFacts.{stays, grows_on, same_tree, same_id}
-use Rattle.law_match.specs.declared.unify.Pair.{Pair}
+use Rattle.law_match.specs.declared.unifier.Pair.{Pair}
 use Rattle.law_match.specs.Unifying.{Opens, IsBound, AreHeld}
 use Rattle.law_match.proofs.Items.{in_at}
 

@@ -16,7 +16,7 @@ use Rattle.law_bank.specs.Bindings.{Binding, bind_of, subst_of, AreRising, with_
 use Rattle.law_bank.proofs.BindingFacts.{put_value}
 use Rattle.law_term.specs.Substs.{variable_of, IsBound, IsFree}
 use Rattle.law_match.specs.Filled.{Binds, AreFilled}
-use Rattle.law_match.proofs.Variables.{put_variable, variables_kept, variable_put}
+use Rattle.law_match.proofs.Putting.{put_variable, variables_kept, variable_put}
 
 pub filling_starts : (matched : List Binding) → AreFilled matched [] matched
 filling_starts matched = record {

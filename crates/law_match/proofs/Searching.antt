@@ -26,7 +26,7 @@ use Rattle.law_bank.proofs.BindingFacts.{put_in}
 use Rattle.law_term.specs.Substs.{variable_of}
 use Rattle.law_match.specs.Visited.{AreVariables, with_id, Search, IsSeen, IsFound, IsOpened, IsVisited, IsMet, IsNamed, IsOwn, IsSearching}
 use Rattle.law_match.proofs.Items.{Made, made_from}
-use Rattle.law_match.proofs.Variables.{put_variable, variables_kept}
+use Rattle.law_match.proofs.Putting.{put_variable, variables_kept}
 
 -- Ids
 

@@ -3,7 +3,7 @@ use Rattle.law_rewriting.specs.UnifyingState.{single, put_binds, bound_more}
 use Rattle.law_bank.specs.Terms.{tree_of}
 use Rattle.law_bank.specs.Bank.{Grows}
 use Rattle.law_bank.specs.Bindings.{binds_of, AllBound}
-use Rattle.law_match.proofs.unify.bound_more.Given as goal
+use Rattle.law_match.proofs.unifier.bound_more.Given as goal
 
 abbrev pub invariant-loop-at : goal.invariant-loop-at
 invariant-loop-at l = record {

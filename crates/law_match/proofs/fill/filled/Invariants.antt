@@ -2,7 +2,7 @@ use Rattle.std.proofs.Common.{take}
 use Rattle.law_bank.specs.Bank.{Grows}
 use Rattle.law_bank.specs.Bindings.{AllBound, AreRising}
 use Rattle.law_match.specs.Filled.{AreFilled}
-use Rattle.law_match.proofs.filled.filled.Given as goal
+use Rattle.law_match.proofs.fill.filled.Given as goal
 
 abbrev pub invariant-loop-at : goal.invariant-loop-at
 invariant-loop-at l = record {
