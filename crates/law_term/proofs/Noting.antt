@@ -238,6 +238,13 @@ listing_start bank terms h = record {
   whole = λ s. ap firsts (entered_left s terms);
 }
 
+pub listing_begun : (bank : Terms) (terms : List (Bor Node)) → AllOf bank terms → (done : Done) (none visits : List Visit) (vs : List Variable)
+    → done ≡ [] → none ≡ [] → visits ≡ none ++ entered terms → vs ≡ [] → IsListing bank terms done visits vs
+listing_begun bank terms h done none visits vs a b c d =
+    subst (λ z. IsListing bank terms z visits vs) (sym a)
+    (subst (λ z. IsListing bank terms [] z vs) (sym (c ∙ ap (λ l. l ++ entered terms) b))
+    (subst (λ z. IsListing bank terms [] (entered terms) z) (sym d) (listing_start bank terms h)))
+
 module _ (bank : Terms) (terms : List (Bor Node)) (done : Done) (before rest : List Visit) (n : Bor Node) (vs : List Variable) (w : IsListing bank terms done before vs) where
   module _ (is : before ≡ rest ++ visit.Enter n ∷ []) where
     of_bank : IsOf bank n.now
