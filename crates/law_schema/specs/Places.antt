@@ -90,8 +90,8 @@ IsAhead rules columns (place.App a) t = IsApplied rules columns a a.walk.next.it
 
 -- the same where none may have been given yet
 abbrev pub IsStanding : Rules → Columns → Place → Option Tree → Type 0
-IsStanding rules columns place None = place ≡ place.Start
-IsStanding rules columns place (Some t) = IsAt rules columns place t
+IsStanding rules columns p None = p ≡ place.Start
+IsStanding rules columns p (Some t) = IsAt rules columns p t
 
 abbrev pub IsConsideredAt : SigParts → List Tree → Option Tree → Type 0
 IsConsideredAt parts schemas None = Unit {0}

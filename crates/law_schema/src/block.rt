@@ -64,14 +64,14 @@ pub fn open(
             next: 0,
         })),
         Place::App(application) => {
-            let fillings = fillings(alloc, rules, columns, spreads, application)?;
+            let fillings = fillings_of(alloc, rules, columns, spreads, application)?;
             Ok(Block::Apps(fillings))
         }
     }
 }
 
 /// The ways to fill the arguments of an application.
-fn fillings(
+fn fillings_of(
     alloc: Global,
     rules: &Rules,
     columns: &[Vec<Seq<Entry<'_>>>],

@@ -1,4 +1,4 @@
-ghost use Rattle.std.specs.Prelude.{◌≡◌, ◌<◌, ◌≤◌, ℕ, [], length, drop, List, IfOk};
+ghost use Rattle.std.specs.Prelude.{◌≡◌, ◌<◌, ◌≤◌, ℕ, [], length, drop, List, Option, IfOk};
 ghost use Rattle.std.specs.Option.{MatchOption};
 ghost use Rattle.law_sig.specs.declared.tree.Tree.{Tree};
 ghost use Rattle.law_sig.specs.declared.parts.SigParts.{SigParts};

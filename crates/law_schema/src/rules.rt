@@ -1,4 +1,4 @@
-ghost use Rattle.std.specs.Prelude.{◌≡◌, ◌<◌, ◌≤◌, length, slice_index_or, IfOk, IsTrue, ℕ};
+ghost use Rattle.std.specs.Prelude.{◌≡◌, ◌<◌, ◌≤◌, [], length, slice_index_or, false, IfOk, IsTrue, ℕ};
 ghost use Rattle.std.specs.Option.{MatchOption};
 ghost use Rattle.law_sig.specs.Lists.{Each};
 ghost use Rattle.law_sig.specs.Signature.{weight_at};
@@ -50,6 +50,7 @@ fn explored_marks(alloc: Global, sig: &Sig) -> Result<Vec<bool>, NoMemory>
     }
 }
 
+#[tactic(auto, using(crate::proofs::Items::present, crate::proofs::Items::missing))]
 /// What a symbol weighs.
 fn weight_at(sig: &Sig, symbol: SymId) -> u32
     ensures { result ≡ weight_at sig.now symbol }
@@ -135,6 +136,7 @@ pub fn rules_of(alloc: Global, sig: &Sig) -> Result<Rules, NoMemory>
     })
 }
 
+#[tactic(auto, using(crate::proofs::Items::present, crate::proofs::Items::missing))]
 /// How many variables a sort has.
 pub fn vars_at(rules: &Rules, sort: SortId) -> u32
     ensures { result ≡ slice_index_or rules.now.vars sort.0 0 }

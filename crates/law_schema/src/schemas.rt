@@ -41,6 +41,7 @@ pub struct Schemas<'a> {
 }
 
 impl<'a> Model for Schemas<'a> {
+    ghost use Rattle.std.specs.Prelude.{[]};
     ghost use Rattle.std.specs.Coded.{codes};
     ghost use Rattle.law_bank.specs.contracts.node.Node as node;
     ghost use mir.Syntax.{named};

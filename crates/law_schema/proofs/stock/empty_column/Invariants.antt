@@ -2,5 +2,5 @@ use Rattle.std.proofs.Common.{◌≡◌, length}
 use Rattle.law_schema.specs.Columns.{AreBare}
 use Rattle.law_schema.proofs.stock.empty_column.Given as goal
 
-abbrev pub invariant-loop-_weight : goal.invariant-loop-_weight
-invariant-loop-_weight l = (length l.column.items ≡ l._weight) × AreBare l.column.items
+abbrev pub invariant-loop-weight : goal.invariant-loop-weight
+invariant-loop-weight l = (length l.column.items ≡ l.weight) × AreBare l.column.items
