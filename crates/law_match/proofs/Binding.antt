@@ -73,7 +73,7 @@ module _ (s : SortId) (i : ℕ) (term : Bor Node) (bs : List Binding) where
   module _ (at : ℕ) (d : Binding) (h : at < length bs) (more new : List Binding) (image : Bor Node)
       (is : tree_of image.now ≡ substituted (single s i (tree_of term.now)) (tree_of (slice_index_or bs at d).2.now))
       (pushed : new ≡ more ++ ((slice_index_or bs at d).0, (slice_index_or bs at d).1, image) ∷ []) where
-    one : Binding
+    abbrev one : Binding
     one = ((slice_index_or bs at d).0, (slice_index_or bs at d).1, image)
 
     one_is : bind_of one ≡ put_bind (single s i (tree_of term.now)) (bind_of (slice_index_or bs at d))

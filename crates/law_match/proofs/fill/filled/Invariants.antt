@@ -9,5 +9,5 @@ invariant-loop-at l = record {
   grows : Grows l.initial.bank l.bank;
   held : AllBound l.bank l.binds;
   rising : AreRising l.binds;
-  filled : AreFilled l.matched (take l.at l.wanted) l.binds;
+  filled : AreFilled l.fn.matched (take l.at l.wanted) l.binds;
 }

@@ -9,5 +9,5 @@ abbrev pub invariant-loop-at : goal.invariant-loop-at
 invariant-loop-at l = record {
   grows : Grows l.initial.bank l.bank;
   held : AllBound l.bank l.more.items;
-  bound : binds_of l.more.items ++ put_binds (single l.sort l.index (tree_of l.term)) (binds_of (drop l.at l.bound)) ≡ bound_more l.sort l.index (tree_of l.term) (binds_of l.bound);
+  bound : binds_of l.more.items ++ put_binds (single l.fn.sort l.index (tree_of l.term)) (binds_of (drop l.at l.bound)) ≡ bound_more l.fn.sort l.index (tree_of l.term) (binds_of l.bound);
 }
