@@ -17,7 +17,7 @@ invariant-first_among-loop-term l = (r : Option Variable) → IsFirst l.after l.
 abbrev pub invariant-first_in-loop-at : goal.invariant-first_in-loop-at
 invariant-first_in-loop-at l = record {
   fewer : node_count (tree_of l.at.term.now) ≤ node_count (tree_of l.term);
-  rest : (r : Option Variable) → IsFirst l.after l.first (tree_of l.at.term.now ∷ []) r → IsFirst l.after l.given (tree_of l.term ∷ []) r;
+  rest : (r : Option Variable) → IsFirst l.after l.first (tree_of l.at.term.now ∷ []) r → IsFirst l.after l.fn.given (tree_of l.term ∷ []) r;
 }
 
 abbrev pub decreases-first_in-loop-at : goal.decreases-first_in-loop-at
