@@ -93,7 +93,7 @@ among_none s i vs at over h k = in_none (subst (λ l. In i (indices s l)) (drop_
 -- The place of a variable among others
 
 module _ (s : SortId) (i : ℕ) where
-  abbrev place_on : ℕ → List Variable → ℕ
+  abbrev pub place_on : ℕ → List Variable → ℕ
   place_on place vs = min (place + place_of i (indices s vs)) (2 ^ 32 - 1)
 
   place_here : (v : Variable) (vs : List Variable) → (same_sort v.0 s && (v.1 == i)) ≡ true → place_of i (indices s (v ∷ vs)) ≡ 0
