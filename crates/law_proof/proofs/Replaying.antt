@@ -28,7 +28,8 @@ use Rattle.law_bank.specs.Bindings.{Binding, binds_of, subst_of, AllBound}
 use Rattle.law_bank.proofs.BankFacts.{stays, same_tree, same_id}
 use Rattle.law_term.specs.declared.equation.Eqn.{Eqn}
 use Rattle.law_term.specs.Places.{IsReplaced, HasNoPlace}
-use Rattle.law_match.specs.Directed.{directed, equation_of, IsEqnOf}
+use Rattle.law_term.specs.Equations.{equation_of}
+use Rattle.law_match.specs.Directed.{directed, IsEqnOf}
 use Rattle.law_proof.specs.declared.kept.Kept.{Kept}
 use Rattle.law_proof.specs.declared.kept.Step as own
 use Rattle.law_proof.specs.Log.{eqn_of, AllKept, step_of, steps_of}

@@ -13,7 +13,8 @@ use Rattle.law_bank.specs.Terms.{tree_of}
 use Rattle.law_bank.specs.Bank.{Terms, IsOf}
 use Rattle.law_bank.specs.Bindings.{Binding, binds_of, AllBound}
 use Rattle.law_term.specs.declared.equation.Eqn.{Eqn}
-use Rattle.law_match.specs.Directed.{equation_of, IsEqnOf}
+use Rattle.law_term.specs.Equations.{equation_of}
+use Rattle.law_match.specs.Directed.{IsEqnOf}
 use Rattle.law_proof.specs.declared.kept.Step.{Step}
 use Rattle.law_proof.specs.declared.kept.Chain.{Chain}
 use Rattle.law_proof.specs.declared.kept.Kept.{Kept}

@@ -3,7 +3,8 @@ ghost use Rattle.law_sig.specs.Lists.{Each};
 ghost use Rattle.law_rewriting.specs.Steps.{AreBindsByHead};
 ghost use Rattle.law_bank.specs.Bank.{IsOf, sorts_by};
 ghost use Rattle.law_bank.specs.Bindings.{AllBound, binds_of};
-ghost use Rattle.law_match.specs.Directed.{equation_of, IsEqnOf};
+ghost use Rattle.law_term.specs.Equations.{equation_of};
+ghost use Rattle.law_match.specs.Directed.{IsEqnOf};
 ghost use Rattle.law_proof.specs.Log.{HasOwnSort};
 ghost use Rattle.law_term.specs.Substs.{variable_of};
 
