@@ -176,7 +176,7 @@ few (suc m) ns h t =
     let b = few m (all_but m ns) (below_but m ns h) (λ k. let f = times_fewer k m ns in let g = t k in omega (arith, f, g)) in
     let c = t m in omega (arith, a, b, c)
 
-place_within : {n : ℕ} {ms : List ℕ} → In n ms → place_of n ms < length ms
+pub place_within : {n : ℕ} {ms : List ℕ} → In n ms → place_of n ms < length ms
 place_within (here {x = n} {xs = ms}) = let e = ap (λ b. if b then 0 else 1 + place_of n ms) (eq-eqb n n refl) in omega (arith, e)
 place_within {n} (there {y = m} {xs = ms} at) = by (n == m) (place_within at)
   where

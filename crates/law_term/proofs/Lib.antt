@@ -3,6 +3,7 @@ pub mod Interning
 pub mod Firsts
 pub mod Walking
 pub mod Noting
+pub mod Tabling
 pub mod Bound
 pub mod Placing
 pub mod Counting

@@ -1,12 +1,12 @@
 -- The variables of terms are listed, node by node.
-use Rattle.std.proofs.Common.{◌≡◌, ℕ, zero, suc, ◌+◌, ◌-◌, ◌^◌, ◌<◌, ◌≤◌, min, ◌⊎◌, inl, inr, ◌↔◌, Bool, true, false, ◌&&◌, ◌==◌, cond, if◌then◌else◌, List, [], ◌∷◌, ◌++◌, length, map, drop, slice_index_or, Option, Some, None, IsSome, IsTrue, append-nil, append_assoc, ap, sym, ◌∙◌, refl, subst, arith}
+use Rattle.std.proofs.Common.{◌≡◌, ℕ, zero, suc, ◌+◌, ◌-◌, ◌^◌, ◌<◌, ◌≤◌, min, ◌⊎◌, inl, inr, ◌↔◌, Bool, true, false, ◌&&◌, ◌==◌, cond, if◌then◌else◌, List, [], ◌∷◌, ◌++◌, length, map, drop, slice_index_or, Option, Some, None, IsSome, IsTrue, append-nil, append_assoc, ap, ap₂, sym, ◌∙◌, refl, subst, arith}
 use Rattle.std.proofs.lemmas.List.{drop_all}
 use Rattle.std.proofs.lemmas.Bool.{eqb-true, eq-eqb}
 use Rattle.indexmap.specs.IndexMap.{insert_entry}
 use denote.Bor.{Bor}
 use Rattle.law_sig.specs.Lists.{In, Each}
 use Rattle.law_sig.specs.Lists.In.{here, there}
-use Rattle.law_sig.specs.Trees.{same_sort, joined, holes, substituted}
+use Rattle.law_sig.specs.Trees.{same_sort, joined, holes, Subst, substituted}
 use Rattle.law_sig.specs.declared.tree.SortId.{SortId}
 use Rattle.law_sig.specs.declared.tree.Tree.{Tree}
 use Rattle.law_sig.specs.declared.tree.Tree.TheVariants as tree
@@ -19,15 +19,15 @@ use Rattle.law_bank.specs.declared.node.Head.{Head}
 use Rattle.law_bank.specs.declared.node.Head.TheVariants.{Var, Sym}
 use Rattle.law_bank.specs.declared.node.Node.{Node, out-Node}
 use Rattle.law_bank.specs.Terms.{tree_at, tree_of, trees_of, id_of, Fits}
-use Rattle.law_bank.specs.Bank.{Terms, IsOf, AllOf}
-use Rattle.law_bank.proofs.BankFacts.{tree_of-out, fits_trees, here as at_root, below, same_tree}
-use Rattle.law_term.specs.declared.change.Change.TheVariants as change
+use Rattle.law_bank.specs.Bank.{Terms, IsOf, AllOf, IsShared}
+use Rattle.law_bank.proofs.BankFacts.{tree_of-out, var_tree, fits_trees, here as at_root, below, same_tree, same_id as id_same}
 use Rattle.law_term.specs.declared.walk.Visit.{Visit}
 use Rattle.law_term.specs.declared.walk.Visit.TheVariants as visit
-use Rattle.law_term.specs.Variables.{Variable, indices, holes_in, place_in, AreVariables, IsAdded}
-use Rattle.law_term.specs.Walks.{Done, same_id, found, meaning, IsVisit, IsReady, entered, IsEntered, own_hole, holes_at, holes_left, IsHeadNoted, IsNoted, IsListed, IsListing}
+use Rattle.law_term.specs.Variables.{Variable, indices, holes_in, place_in, AreVariables}
+use Rattle.law_term.specs.Tables.{Table, place_by, HavePlaces}
+use Rattle.law_term.specs.Walks.{Done, same_id, found, IsVisit, IsReady, entered, IsEntered, own_hole, holes_at, holes_left, IsHeadNoted, IsNewlyNoted, IsNoted, IsListed, IsKnown, IsListing}
 use Rattle.law_term.proofs.Bound.{drop_get}
-use Rattle.law_term.proofs.Walking.{found_in, each_insert, entered_ready, entered_visited, visited_entered, ready_entered, top_entered, top_left, top_ready, visited_left, ready_left}
+use Rattle.law_term.proofs.Walking.{found_in, each_insert, ready_less, entered_ready, entered_visited, visited_entered, ready_entered, top_entered, top_left, top_ready, visited_left, done_on, done_own, ready_left}
 use Rattle.law_term.proofs.Firsts.{known, new_once, firsts_in, firsts_twice, place_small}
 
 -- Indices of a sort
@@ -48,86 +48,6 @@ indices_small m s (v ∷ vs) h = by (same_sort v.0 s) (indices_small m s vs h.1)
     by : (b : Bool) → Each (λ i. i < m) (indices s vs) → Each (λ i. i < m) (if b then v.1 ∷ indices s vs else indices s vs)
     by true ih = (h.0, ih)
     by false ih = ih
-
--- Whether a variable is among others, from a place on
-
-abbrev pub AmongFrom : SortId → ℕ → List Variable → ℕ → Type 0
-AmongFrom s i vs at = In i (indices s vs) → In i (indices s (drop at vs))
-
-among_here : (s : SortId) (i : ℕ) (v : Variable) (vs : List Variable) → (same_sort v.0 s && (v.1 == i)) ≡ true → In i (indices s (v ∷ vs))
-among_here s i v vs e =
-    let p = both_true (same_sort v.0 s) (v.1 == i) e in
-    subst (λ b. In i (if b then v.1 ∷ indices s vs else indices s vs)) (sym p.0) (subst (λ z. In z (v.1 ∷ indices s vs)) (eqb-true v.1 i p.1) here)
-
-among_later : (s : SortId) (i : ℕ) (v : Variable) (vs : List Variable) → (same_sort v.0 s && (v.1 == i)) ≡ false → In i (indices s (v ∷ vs)) → In i (indices s vs)
-among_later s i v vs e at = by (same_sort v.0 s) refl at
-  where
-    first : same_sort v.0 s ≡ true → (i ≡ v.1) ⊎ In i (indices s vs) → In i (indices s vs)
-    first p (inl q) =
-        let k : (same_sort v.0 s && (v.1 == i)) ≡ true = ap (λ b. b && (v.1 == i)) p ∙ eq-eqb v.1 i (sym q) in absurd (cc)
-    first p (inr k) = k
-
-    by : (b : Bool) → same_sort v.0 s ≡ b → In i (if b then v.1 ∷ indices s vs else indices s vs) → In i (indices s vs)
-    by true p k = first p (in_rest k)
-    by false p k = k
-
-in_whole : (s : SortId) (i : ℕ) (vs : List Variable) (at : ℕ) → In i (indices s (drop at vs)) → In i (indices s vs)
-in_whole s i vs zero k = k
-in_whole s i [] (suc n) k = k
-in_whole s i (v ∷ vs) (suc n) k = by (same_sort v.0 s) (in_whole s i vs n k)
-  where
-    by : (b : Bool) → In i (indices s vs) → In i (if b then v.1 ∷ indices s vs else indices s vs)
-    by true h = there h
-    by false h = h
-
-module _ (s : SortId) (i : ℕ) (vs : List Variable) (at : ℕ) (d : Variable) (within : at < length vs) where
-  pub among_found : (same_sort (slice_index_or vs at d).0 s && ((slice_index_or vs at d).1 == i)) ≡ true → In i (indices s vs)
-  among_found e = in_whole s i vs at (subst (λ l. In i (indices s l)) (sym (drop_get vs at d within)) (among_here s i (slice_index_or vs at d) (drop (at + 1) vs) e))
-
-  pub among_next : (same_sort (slice_index_or vs at d).0 s && ((slice_index_or vs at d).1 == i)) ≡ false → AmongFrom s i vs at → AmongFrom s i vs (at + 1)
-  among_next e h k = among_later s i (slice_index_or vs at d) (drop (at + 1) vs) e (subst (λ l. In i (indices s l)) (drop_get vs at d within) (h k))
-
-pub among_none : (s : SortId) (i : ℕ) (vs : List Variable) (at : ℕ) → length vs ≤ at → AmongFrom s i vs at → In i (indices s vs) → ⊥
-among_none s i vs at over h k = in_none (subst (λ l. In i (indices s l)) (drop_all at vs over) (h k))
-
--- The place of a variable among others
-
-module _ (s : SortId) (i : ℕ) where
-  abbrev pub place_on : ℕ → List Variable → ℕ
-  place_on place vs = min (place + place_of i (indices s vs)) (2 ^ 32 - 1)
-
-  place_here : (v : Variable) (vs : List Variable) → (same_sort v.0 s && (v.1 == i)) ≡ true → place_of i (indices s (v ∷ vs)) ≡ 0
-  place_here v vs e =
-      let p = both_true (same_sort v.0 s) (v.1 == i) e in
-      ap (λ b. place_of i (if b then v.1 ∷ indices s vs else indices s vs)) p.0 ∙ ap (λ b. if b then 0 else 1 + place_of i (indices s vs)) (eq-eqb i v.1 (sym (eqb-true v.1 i p.1)))
-
-  place_same : (v : Variable) (vs : List Variable) → (same_sort v.0 s && (v.1 == i)) ≡ false → same_sort v.0 s ≡ true → place_of i (indices s (v ∷ vs)) ≡ 1 + place_of i (indices s vs)
-  place_same v vs e p =
-      ap (λ b. place_of i (if b then v.1 ∷ indices s vs else indices s vs)) p ∙ by (i == v.1) refl
-    where
-      by : (b : Bool) → (i == v.1) ≡ b → (if b then 0 else 1 + place_of i (indices s vs)) ≡ 1 + place_of i (indices s vs)
-      by true q = let k : (same_sort v.0 s && (v.1 == i)) ≡ true = ap (λ b. b && (v.1 == i)) p ∙ eq-eqb v.1 i (sym (eqb-true i v.1 q)) in absurd (cc)
-      by false q = refl
-
-  place_other : (v : Variable) (vs : List Variable) → same_sort v.0 s ≡ false → place_of i (indices s (v ∷ vs)) ≡ place_of i (indices s vs)
-  place_other v vs p = ap (λ b. place_of i (if b then v.1 ∷ indices s vs else indices s vs)) p
-
-  module _ (vs : List Variable) (at : ℕ) (d : Variable) (within : at < length vs) (place : ℕ) (small : place < 2 ^ 32) (is : place_on place (drop at vs) ≡ place_in vs s i) where
-    at_item : place_on place (slice_index_or vs at d ∷ drop (at + 1) vs) ≡ place_in vs s i
-    at_item = ap (place_on place) (sym (drop_get vs at d within)) ∙ is
-
-    pub place_found : (same_sort (slice_index_or vs at d).0 s && ((slice_index_or vs at d).1 == i)) ≡ true → place ≡ place_in vs s i
-    place_found e = let z = place_here (slice_index_or vs at d) (drop (at + 1) vs) e in let a = at_item in omega (arith, z, a, small)
-
-    pub place_counted : (next : ℕ) → (same_sort (slice_index_or vs at d).0 s && ((slice_index_or vs at d).1 == i)) ≡ false → same_sort (slice_index_or vs at d).0 s ≡ true
-        → next ≡ min (place + 1) (2 ^ 32 - 1) → place_on next (drop (at + 1) vs) ≡ place_in vs s i
-    place_counted next e p n = let z = place_same (slice_index_or vs at d) (drop (at + 1) vs) e p in let a = at_item in omega (arith, z, a, n)
-
-    pub place_passed : same_sort (slice_index_or vs at d).0 s ≡ false → place_on place (drop (at + 1) vs) ≡ place_in vs s i
-    place_passed p = let z = place_other (slice_index_or vs at d) (drop (at + 1) vs) p in let a = at_item in omega (arith, z, a)
-
-  pub place_end : (vs : List Variable) (at place : ℕ) → length vs ≤ at → place < 2 ^ 32 → place_on place (drop at vs) ≡ place_in vs s i → place ≡ place_in vs s i
-  place_end vs at place over small is = let e = ap (λ l. place_of i (indices s l)) (drop_all at vs over) in omega (arith, e, small, is)
 
 -- The holes that are left
 
@@ -163,52 +83,69 @@ own_small s u i P f = by (same_sort u s) refl
 own_indices : (s u : SortId) (i : ℕ) → indices s ((u, i) ∷ []) ≡ own_hole s (Var u i)
 own_indices s u i = refl
 
+-- a variable was put to others, where it wasn't among them
+abbrev IsAdded : Variable → List Variable → List Variable → Type 0
+IsAdded v old new = (In v.1 (indices v.0 old) → ⊥) × (new ≡ old ++ v ∷ [])
+
+abbrev IsHeadAdded : Head → List Variable → List Variable → Type 0
+IsHeadAdded (Var s i) old new = IsAdded (s, i) old new
+IsHeadAdded (Sym f) old new = new ≡ old
+
 -- what was there stays
 added_stays : (v : Variable) (old new : List Variable) → IsAdded v old new → (s : SortId) (i : ℕ) → In i (indices s old) → In i (indices s new)
-added_stays v old new (inl h) s i at = subst (λ l. In i (indices s l)) (sym h.1) at
-added_stays v old new (inr h) s i at = subst (λ l. In i l) (sym (ap (indices s) h.1 ∙ indices_append s old (v ∷ []))) (in_left (indices s (v ∷ [])) at)
+added_stays v old new h s i at = subst (λ l. In i l) (sym (ap (indices s) h.1 ∙ indices_append s old (v ∷ []))) (in_left (indices s (v ∷ [])) at)
 
-noted_stays : (h : Head) (old new : List Variable) → IsHeadNoted h old new → (s : SortId) (i : ℕ) → In i (indices s old) → In i (indices s new)
+noted_stays : (h : Head) (old new : List Variable) → IsHeadAdded h old new → (s : SortId) (i : ℕ) → In i (indices s old) → In i (indices s new)
 noted_stays (Var u j) old new h s i at = added_stays (u, j) old new h s i at
 noted_stays (Sym f) old new h s i at = subst (λ l. In i (indices s l)) (sym h) at
 
 -- and the head's own variable is there
 added_own : (v : Variable) (old new : List Variable) → IsAdded v old new → In v.1 (indices v.0 new)
-added_own v old new (inl h) = subst (λ l. In v.1 (indices v.0 l)) (sym h.1) h.0
-added_own v old new (inr h) = subst (In v.1) (sym (ap (indices v.0) h.1 ∙ indices_append v.0 old (v ∷ [])))
+added_own v old new h = subst (In v.1) (sym (ap (indices v.0) h.1 ∙ indices_append v.0 old (v ∷ [])))
     (in_right (indices v.0 old) (subst (λ b. In v.1 (if b then v.1 ∷ [] else [])) (sym (same_sort_itself v.0)) here))
 
-noted_own : (h : Head) (old new : List Variable) → IsHeadNoted h old new → (s : SortId) → Each (λ i. In i (indices s new)) (own_hole s h)
+noted_own : (h : Head) (old new : List Variable) → IsHeadAdded h old new → (s : SortId) → Each (λ i. In i (indices s new)) (own_hole s h)
 noted_own (Var u j) old new h s = own_small s u j (λ i. In i (indices s new)) (λ e. subst (λ z. In j (indices z new)) e (added_own (u, j) old new h))
 noted_own (Sym f) old new h s = tt
 
 -- each is listed once still
 added_once : (v : Variable) (old new : List Variable) → IsAdded v old new → ((s : SortId) → firsts (indices s old) ≡ indices s old) → (s : SortId) → firsts (indices s new) ≡ indices s new
-added_once v old new (inl h) once s = subst (λ l. firsts (indices s l) ≡ indices s l) (sym h.1) (once s)
-added_once v old new (inr h) once s = subst (λ l. firsts l ≡ l) (sym (ap (indices s) h.1 ∙ indices_append s old (v ∷ []))) (by (same_sort v.0 s) refl)
+added_once v old new h once s = subst (λ l. firsts l ≡ l) (sym (ap (indices s) h.1 ∙ indices_append s old (v ∷ []))) (by (same_sort v.0 s) refl)
   where
     by : (b : Bool) → same_sort v.0 s ≡ b → firsts (indices s old ++ (if b then v.1 ∷ [] else [])) ≡ indices s old ++ (if b then v.1 ∷ [] else [])
     by true e = new_once v.1 (indices s old) (λ at. h.0 (subst (λ z. In v.1 (indices z old)) (sym (same_sort_is v.0 s e)) at)) (once s)
     by false e = ap firsts (append-nil (indices s old)) ∙ once s ∙ sym (append-nil (indices s old))
 
-noted_once : (h : Head) (old new : List Variable) → IsHeadNoted h old new → ((s : SortId) → firsts (indices s old) ≡ indices s old) → (s : SortId) → firsts (indices s new) ≡ indices s new
+noted_once : (h : Head) (old new : List Variable) → IsHeadAdded h old new → ((s : SortId) → firsts (indices s old) ≡ indices s old) → (s : SortId) → firsts (indices s new) ≡ indices s new
 noted_once (Var u j) old new h once s = added_once (u, j) old new h once s
 noted_once (Sym f) old new h once s = subst (λ l. firsts (indices s l) ≡ indices s l) (sym h) (once s)
 
 -- what is listed, and the rest, are in all what they were
 added_whole : (v : Variable) (old new : List Variable) → IsAdded v old new → (s : SortId) (rest : List ℕ)
     → firsts (indices s new ++ rest) ≡ firsts (indices s old ++ (own_hole s (Var v.0 v.1) ++ rest))
-added_whole v old new (inl h) s rest =
-    ap (λ l. firsts (indices s l ++ rest)) h.1
-    ∙ sym (known (indices s old) (own_hole s (Var v.0 v.1)) rest (own_small s v.0 v.1 (λ i. In i (indices s old)) (λ e. subst (λ z. In v.1 (indices z old)) e h.0)))
-added_whole v old new (inr h) s rest =
+added_whole v old new h s rest =
     ap firsts (ap (λ l. l ++ rest) (ap (indices s) h.1 ∙ indices_append s old (v ∷ [])) ∙ append_assoc (indices s old) (own_hole s (Var v.0 v.1)) rest)
 
-noted_whole : (h : Head) (old new : List Variable) → IsHeadNoted h old new → (s : SortId) (rest : List ℕ) → firsts (indices s new ++ rest) ≡ firsts (indices s old ++ (own_hole s h ++ rest))
+noted_whole : (h : Head) (old new : List Variable) → IsHeadAdded h old new → (s : SortId) (rest : List ℕ) → firsts (indices s new ++ rest) ≡ firsts (indices s old ++ (own_hole s h ++ rest))
 noted_whole (Var u j) old new h s rest = added_whole (u, j) old new h s rest
 noted_whole (Sym f) old new h s rest = ap (λ l. firsts (indices s l ++ rest)) h
 
 -- Steps
+
+known_of : (bank : Terms) (done : Done) (s : SortId) (i : ℕ) (vs : List Variable) → Each (IsKnown bank done) vs → In i (indices s vs) → IsKnown bank done (s, i)
+known_of bank done s i [] h at = in_none at
+known_of bank done s i (v ∷ vs) h at = by (known_of bank done s i vs h.1) (same_sort v.0 s) refl at
+  where
+    first : IsKnown bank done v → v.0 ≡ s → i ≡ v.1 → IsKnown bank done (s, i)
+    first k p q = record { node = k.node; held = k.held; is = k.is ∙ ap₂ tree.Var p (sym q); left = k.left }
+
+    own : (In i (indices s vs) → IsKnown bank done (s, i)) → same_sort v.0 s ≡ true → (i ≡ v.1) ⊎ In i (indices s vs) → IsKnown bank done (s, i)
+    own later p (inl q) = first h.0 (same_sort_is v.0 s p) q
+    own later p (inr k) = later k
+
+    by : (In i (indices s vs) → IsKnown bank done (s, i)) → (b : Bool) → same_sort v.0 s ≡ b → In i (if b then v.1 ∷ indices s vs else indices s vs) → IsKnown bank done (s, i)
+    by later true p k = own later p (in_rest k)
+    by later false p k = later k
 
 is_found : (done : Done) (id : ℕ) → IsSome (found done id) → (m : Bor Node) × (found done id ≡ Some m)
 is_found done id h = by (found done id) refl h
@@ -234,6 +171,7 @@ listing_start bank terms h = record {
   visited = entered_visited bank terms h;
   ready = entered_ready [] terms;
   listed = tt;
+  known = tt;
   once = λ s. refl;
   whole = λ s. ap firsts (entered_left s terms);
 }
@@ -267,39 +205,86 @@ module _ (bank : Terms) (terms : List (Bor Node)) (done : Done) (before rest : L
       visited = visited_entered bank done before rest n w.visited w.ready is new h;
       ready = ready_entered bank done before rest n w.visited w.ready is new h;
       listed = w.listed;
+      known = w.known;
       once = w.once;
       whole = λ s. entered_whole s new h ∙ w.whole s;
     }
 
-  module _ (is : before ≡ rest ++ visit.Leave n ∷ []) (new : Done) (vs' : List Variable) (l : IsNoted n done new vs vs') where
+  module _ (is : before ≡ rest ++ visit.Leave n ∷ []) where
     left_of_bank : IsOf bank n.now
     left_of_bank = top_left bank done before rest n w.visited w.ready is
 
-    on : (s : SortId) (i : ℕ) → In i (indices s vs) → In i (indices s vs')
-    on = noted_stays (out-Node n.now).head vs vs' l.head
+    -- a node that is done already adds nothing
+    own_known : IsSome (found done (id_of n.now)) → (s : SortId) → Each (λ i. In i (indices s vs)) (own_hole s (out-Node n.now).head)
+    own_known k s = each_right (λ i. In i (indices s vs)) (holes_in s (trees_of (out-Node n.now).args.now)) (own_hole s (out-Node n.now).head)
+        (subst (Each (λ i. In i (indices s vs))) (node_holes bank s n.now left_of_bank) (done_listed bank vs done w.listed n.now left_of_bank k s))
 
-    own_listed : (m : Node) → IsOf bank m → id_of m ≡ id_of n.now → (s : SortId) → Each (λ i. In i (indices s vs')) (holes s (tree_of m))
-    own_listed m of e s =
-        subst (Each (λ i. In i (indices s vs'))) (sym (ap (holes s) (same_tree bank m n.now of left_of_bank e) ∙ node_holes bank s n.now left_of_bank))
-        (each_both (λ i. In i (indices s vs')) (holes_in s (trees_of (out-Node n.now).args.now)) (own_hole s (out-Node n.now).head)
-        (each_map (λ i. In i (indices s vs)) (λ i. In i (indices s vs')) (on s) (holes_in s (trees_of (out-Node n.now).args.now))
-        (all_listed bank vs done w.listed (out-Node n.now).args.now (below bank n.now left_of_bank) (top_ready bank done before rest n w.visited w.ready is) s))
-        (noted_own (out-Node n.now).head vs vs' l.head s))
-
-    listed_on : (e : ℕ × Bor Node) → IsListed bank vs e → IsListed bank vs' e
-    listed_on e h m of same s = each_map (λ i. In i (indices s vs)) (λ i. In i (indices s vs')) (on s) (holes s (tree_of m)) (h m of same s)
-
-    pub listing_left : IsListing bank terms new rest vs'
-    listing_left = record {
+    listing_again : IsSome (found done (id_of n.now)) → IsListing bank terms done rest vs
+    listing_again k = record {
       visited = visited_left bank done before rest n w.visited w.ready is;
-      ready = ready_left bank done before rest n w.visited w.ready is new n l.finds;
-      listed = subst (Each (IsListed bank vs')) (sym l.noted)
-          (each_insert (IsListed bank vs') (id_of n.now) n (λ j q m of e. own_listed m of (e ∙ sym (eqb-true (id_of n.now) j q))) (λ m of e. own_listed m of e) done
-          (each_map (IsListed bank vs) (IsListed bank vs') listed_on done w.listed));
-      once = noted_once (out-Node n.now).head vs vs' l.head w.once;
-      whole = λ s. noted_whole (out-Node n.now).head vs vs' l.head s (holes_left s rest)
+      ready = ready_less done rest (visit.Leave n) k (subst (IsReady done) is w.ready);
+      listed = w.listed;
+      known = w.known;
+      once = w.once;
+      whole = λ s. sym (known (indices s vs) (own_hole s (out-Node n.now).head) (holes_left s rest) (own_known k s))
           ∙ ap (λ l. firsts (indices s vs ++ l)) (sym (top_first s before rest (visit.Leave n) is)) ∙ w.whole s;
     }
+
+    module _ (shared : IsShared bank) (new : Done) (vs' : List Variable) (l : IsNewlyNoted n done new vs vs') where
+      -- what wasn't done isn't listed: a variable has one node
+      added : IsHeadAdded (out-Node n.now).head vs vs'
+      added = by (out-Node n.now).head refl l.head
+        where
+          absent : (s : SortId) (i : ℕ) → (out-Node n.now).head ≡ Var s i → IsKnown bank done (s, i) → ⊥
+          absent s i e k =
+              l.fresh (subst (λ z. IsSome (found done z)) (id_same bank k.node n.now shared k.held left_of_bank (k.is ∙ sym (var_tree n.now s i e))) k.left)
+
+          by : (h : Head) → (out-Node n.now).head ≡ h → IsHeadNoted h vs vs' → IsHeadAdded h vs vs'
+          by (Var s i) e q = (λ at. absent s i e (known_of bank done s i vs w.known at), q)
+          by (Sym f) e q = q
+
+      known_on : (v : Variable) → IsKnown bank done v → IsKnown bank new v
+      known_on v k = record { node = k.node; held = k.held; is = k.is; left = done_on bank done before rest n w.visited w.ready is new n l.finds (id_of k.node) k.left }
+
+      known_more : Each (IsKnown bank new) vs'
+      known_more = by (out-Node n.now).head refl l.head
+        where
+          by : (h : Head) → (out-Node n.now).head ≡ h → IsHeadNoted h vs vs' → Each (IsKnown bank new) vs'
+          by (Var s i) e q = subst (Each (IsKnown bank new)) (sym q)
+              (each_both (IsKnown bank new) vs ((s, i) ∷ []) (each_map (IsKnown bank done) (IsKnown bank new) known_on vs w.known)
+              (record { node = n.now; held = left_of_bank; is = var_tree n.now s i e; left = done_own bank done before rest n w.visited w.ready is new n l.finds }, tt))
+          by (Sym f) e q = subst (Each (IsKnown bank new)) (sym q) (each_map (IsKnown bank done) (IsKnown bank new) known_on vs w.known)
+
+      on : (s : SortId) (i : ℕ) → In i (indices s vs) → In i (indices s vs')
+      on = noted_stays (out-Node n.now).head vs vs' added
+
+      own_listed : (m : Node) → IsOf bank m → id_of m ≡ id_of n.now → (s : SortId) → Each (λ i. In i (indices s vs')) (holes s (tree_of m))
+      own_listed m of e s =
+          subst (Each (λ i. In i (indices s vs'))) (sym (ap (holes s) (same_tree bank m n.now of left_of_bank e) ∙ node_holes bank s n.now left_of_bank))
+          (each_both (λ i. In i (indices s vs')) (holes_in s (trees_of (out-Node n.now).args.now)) (own_hole s (out-Node n.now).head)
+          (each_map (λ i. In i (indices s vs)) (λ i. In i (indices s vs')) (on s) (holes_in s (trees_of (out-Node n.now).args.now))
+          (all_listed bank vs done w.listed (out-Node n.now).args.now (below bank n.now left_of_bank) (top_ready bank done before rest n w.visited w.ready is) s))
+          (noted_own (out-Node n.now).head vs vs' added s))
+
+      listed_on : (e : ℕ × Bor Node) → IsListed bank vs e → IsListed bank vs' e
+      listed_on e h m of same s = each_map (λ i. In i (indices s vs)) (λ i. In i (indices s vs')) (on s) (holes s (tree_of m)) (h m of same s)
+
+      listing_newly : IsListing bank terms new rest vs'
+      listing_newly = record {
+        visited = visited_left bank done before rest n w.visited w.ready is;
+        ready = ready_left bank done before rest n w.visited w.ready is new n l.finds;
+        listed = subst (Each (IsListed bank vs')) (sym l.noted)
+            (each_insert (IsListed bank vs') (id_of n.now) n (λ j q m of e. own_listed m of (e ∙ sym (eqb-true (id_of n.now) j q))) (λ m of e. own_listed m of e) done
+            (each_map (IsListed bank vs) (IsListed bank vs') listed_on done w.listed));
+        known = known_more;
+        once = noted_once (out-Node n.now).head vs vs' added w.once;
+        whole = λ s. noted_whole (out-Node n.now).head vs vs' added s (holes_left s rest)
+            ∙ ap (λ l. firsts (indices s vs ++ l)) (sym (top_first s before rest (visit.Leave n) is)) ∙ w.whole s;
+      }
+
+    pub listing_left : IsShared bank → (new : Done) (vs' : List Variable) → IsNoted n done new vs vs' → IsListing bank terms new rest vs'
+    listing_left shared new vs' (inl k) = subst (λ d. IsListing bank terms d rest vs') (sym k.1) (subst (λ l. IsListing bank terms done rest l) (sym k.2) (listing_again k.0))
+    listing_left shared new vs' (inr l) = listing_newly shared new vs' l
 
 pub listing_end : (bank : Terms) (terms : List (Bor Node)) (done : Done) (visits : List Visit) (vs : List Variable) → length visits ≡ 0 → IsListing bank terms done visits vs
     → AreVariables (trees_of terms) vs
@@ -324,13 +309,18 @@ module _ (a b : Tree) (vs : List Variable) (w : AreVariables (a ∷ b ∷ []) vs
       let e : place_in vs s i ≡ place_of i (indices s vs) = omega (arith, less) in
       e ∙ ap (place_of i) (both_seen s)
 
-  pub renumbered : (v : Bor (List Variable)) → v.now ≡ vs → (t : Tree) → ((s : SortId) (i : ℕ) → In i (holes s t) → In i (seen s))
-      → substituted (meaning (change.Renumber v)) t ≡ substituted (renumbering seen) t
-  renumbered v is t among = agreeing (meaning (change.Renumber v)) (renumbering seen) t
-      (λ s i at. ap (λ l. tree.Var s (place_in l s i)) is ∙ ap (tree.Var s) (place_is s i (among s i at)))
+  -- a term whose variables get the places that a table has for them
+  module _ (places : Table) (have : HavePlaces vs places) (σ : Subst) (puts : (s : SortId) (i : ℕ) → σ s i ≡ tree.Var s (place_by places s i)) where
+    place_had : (s : SortId) (i : ℕ) → In i (seen s) → place_by places s i ≡ place_of i (firsts (seen s))
+    place_had s i at =
+        let listed = subst (In i) (sym (both_seen s)) (firsts_in at) in
+        have s i (of_each (λ k. k < 2 ^ 32) listed (indices_small (2 ^ 32) s vs small)) listed ∙ place_is s i at
 
-  pub renumbered_left : (v : Bor (List Variable)) → v.now ≡ vs → substituted (meaning (change.Renumber v)) a ≡ substituted (renumbering seen) a
-  renumbered_left v is = renumbered v is a (λ s i at. in_left (holes s b) at)
+    renumbered : (t : Tree) → ((s : SortId) (i : ℕ) → In i (holes s t) → In i (seen s)) → substituted σ t ≡ substituted (renumbering seen) t
+    renumbered t among = agreeing σ (renumbering seen) t (λ s i at. puts s i ∙ ap (tree.Var s) (place_had s i (among s i at)))
 
-  pub renumbered_right : (v : Bor (List Variable)) → v.now ≡ vs → substituted (meaning (change.Renumber v)) b ≡ substituted (renumbering seen) b
-  renumbered_right v is = renumbered v is b (λ s i at. in_right (holes s a) at)
+    pub renumbered_left : substituted σ a ≡ substituted (renumbering seen) a
+    renumbered_left = renumbered a (λ s i at. in_left (holes s b) at)
+
+    pub renumbered_right : substituted σ b ≡ substituted (renumbering seen) b
+    renumbered_right = renumbered b (λ s i at. in_right (holes s a) at)

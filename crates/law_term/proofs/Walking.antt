@@ -104,7 +104,7 @@ needs_map old new above more (visit.Enter n) f h = tt
 needs_map old new above more (visit.Leave n) f h =
     each_map (λ (a : Bor Node). IsCovered old above (id_of a.now)) (λ (a : Bor Node). IsCovered new more (id_of a.now)) (λ a. f (id_of a.now)) (out-Node n.now).args.now h
 
-ready_less : (done : Done) (rest : List Visit) (v : Visit) → IsSome (found done (visit_id v)) → IsReady done (rest ++ v ∷ []) → IsReady done rest
+pub ready_less : (done : Done) (rest : List Visit) (v : Visit) → IsSome (found done (visit_id v)) → IsReady done (rest ++ v ∷ []) → IsReady done rest
 ready_less done [] v h r = tt
 ready_less done (x ∷ xs) v h r = (needs_map done done (xs ++ v ∷ []) xs x (covers_less done xs v h) r.0, ready_less done xs v h r.1)
 
@@ -227,14 +227,14 @@ module _ (start : Terms) (done : Done) (before rest : List Visit) (n : Bor Node)
 
     -- once the node is done
     module _ (new : Done) (made : Bor Node) (finds : (id : ℕ) → found new id ≡ (if same_id (id_of n.now) id then Some made else found done id)) where
-      done_on : (id : ℕ) → IsSome (found done id) → IsSome (found new id)
+      pub done_on : (id : ℕ) → IsSome (found done id) → IsSome (found new id)
       done_on id h = by (same_id (id_of n.now) id) (finds id)
         where
           by : (b : Bool) → found new id ≡ (if b then Some made else found done id) → IsSome (found new id)
           by true e = ap is_some e
           by false e = subst IsSome (sym e) h
 
-      done_own : IsSome (found new (id_of n.now))
+      pub done_own : IsSome (found new (id_of n.now))
       done_own = by (same_id (id_of n.now) (id_of n.now)) (eq-eqb (id_of n.now) (id_of n.now) refl) (finds (id_of n.now))
         where
           by : (b : Bool) → b ≡ true → found new (id_of n.now) ≡ (if b then Some made else found done (id_of n.now)) → IsSome (found new (id_of n.now))

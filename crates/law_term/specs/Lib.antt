@@ -1,6 +1,7 @@
 pub mod Keys
 pub mod Inside
 pub mod Variables
+pub mod Tables
 pub mod Equations
 pub mod Pairs
 pub mod Walks

@@ -28,10 +28,6 @@ AreVariables ts vs = (s : SortId) → indices s vs ≡ firsts (holes_in s ts)
 abbrev pub place_in : List Variable → SortId → ℕ → ℕ
 place_in vs s i = min (place_of i (indices s vs)) (2 ^ 32 - 1)
 
--- a variable was put to others, where it wasn't among them
-abbrev pub IsAdded : Variable → List Variable → List Variable → Type 0
-IsAdded v old new = (In v.1 (indices v.0 old) × (new ≡ old)) ⊎ ((In v.1 (indices v.0 old) → ⊥) × (new ≡ old ++ v ∷ []))
-
 -- One variable after another
 
 -- by sort, and then index

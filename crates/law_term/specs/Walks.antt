@@ -19,21 +19,22 @@ use Rattle.law_term.specs.declared.change.Change.{Change}
 use Rattle.law_term.specs.declared.change.Change.TheVariants as change
 use Rattle.law_term.specs.declared.walk.Visit.{Visit}
 use Rattle.law_term.specs.declared.walk.Visit.TheVariants as visit
-use Rattle.law_term.specs.Variables.{Variable, indices, place_in, holes_in, IsAdded}
+use Rattle.law_term.specs.Variables.{Variable, indices, holes_in}
+use Rattle.law_term.specs.Tables.{place_by}
 
 -- what is put for each variable. An index that would pass 2^32 - 1 stops there
 abbrev pub meaning : Change → Subst
 meaning change.Flat sort index = tree.Var sort 0
 meaning (change.Shift by) sort index = tree.Var sort (min (index + by) (2 ^ 32 - 1))
 meaning (change.Bind bindings) sort index = subst_of bindings.now sort index
-meaning (change.Renumber variables) sort index = tree.Var sort (place_in variables.now sort index)
+meaning (change.Renumber places) sort index = tree.Var sort (place_by places.now.entries sort index)
 
 -- the terms that are put are of the bank
 abbrev pub IsChange : Terms → Change → Type 0
 IsChange bank change.Flat = Unit {0}
 IsChange bank (change.Shift by) = Unit {0}
 IsChange bank (change.Bind bindings) = AllBound bank bindings.now
-IsChange bank (change.Renumber variables) = Unit {0}
+IsChange bank (change.Renumber places) = Unit {0}
 
 -- the table: an id, and the term that its node was changed to
 abbrev pub Done : Type 0
@@ -131,25 +132,38 @@ abbrev pub holes_left : SortId → List Visit → List ℕ
 holes_left s [] = []
 holes_left s (v ∷ above) = holes_left s above ++ holes_at s v
 
--- a head was noted
+-- a head was noted, its variable behind those that were
 abbrev pub IsHeadNoted : Head → List Variable → List Variable → Type 0
-IsHeadNoted (Var s i) old new = IsAdded (s, i) old new
+IsHeadNoted (Var s i) old new = new ≡ old ++ (s, i) ∷ []
 IsHeadNoted (Sym f) old new = new ≡ old
 
--- a node was left: its head is noted, and the node is done
-pub record IsNoted (n : Bor Node) (old new : Done) (was are : List Variable) : Type 0 where
+-- a node that wasn't done was left: its head is noted, and the node is done
+pub record IsNewlyNoted (n : Bor Node) (old new : Done) (was are : List Variable) : Type 0 where
+  pub fresh : IsSome (found old (id_of n.now)) → ⊥
   pub head : IsHeadNoted (out-Node n.now).head was are
   pub noted : new ≡ insert_entry same_id old (id_of n.now) n
   pub finds : (id : ℕ) → found new id ≡ (if same_id (id_of n.now) id then Some n else found old id)
 
+-- a node was left: it was done already, or it is done now
+abbrev pub IsNoted : Bor Node → Done → Done → List Variable → List Variable → Type 0
+IsNoted n old new was are = (IsSome (found old (id_of n.now)) × (new ≡ old) × (are ≡ was)) ⊎ IsNewlyNoted n old new was are
+
 -- all variables of the nodes that are done are listed
 abbrev pub IsListed : Terms → List Variable → ℕ × Bor Node → Type 0
 IsListed bank vs e = (n : Node) → IsOf bank n → id_of n ≡ e.0 → (s : SortId) → Each (λ i. In i (indices s vs)) (holes s (tree_of n))
+
+-- a variable that is listed is that of a node that is done
+pub record IsKnown (bank : Terms) (done : Done) (v : Variable) : Type 0 where
+  pub node : Node
+  pub held : IsOf bank node
+  pub is : tree_of node ≡ tree.Var v.0 v.1
+  pub left : IsSome (found done (id_of node))
 
 -- while the variables of terms are listed
 pub record IsListing (bank : Terms) (terms : List (Bor Node)) (done : Done) (visits : List Visit) (vs : List Variable) : Type 0 where
   pub visited : Each (IsVisit bank) visits
   pub ready : IsReady done visits
   pub listed : Each (IsListed bank vs) done
+  pub known : Each (IsKnown bank done) vs
   pub once : (s : SortId) → firsts (indices s vs) ≡ indices s vs
   pub whole : (s : SortId) → firsts (indices s vs ++ holes_left s visits) ≡ firsts (holes_in s (trees_of terms))

@@ -12,12 +12,12 @@ ghost use Rattle.law_bank.specs.Terms.{tree_of, id_of};
 ghost use Rattle.law_bank.specs.Bank.{Terms, IsOf, AllOf, Grows};
 ghost use Rattle.law_bank.specs.Bindings.{AllBound, subst_of};
 ghost use Rattle.law_term.specs.Equations.{equation_of};
-ghost use Rattle.law_term.specs.Variables.{place_in};
 ghost use Rattle.law_term.specs.Walks.{meaning, IsChange, same_id, found, AllMade, AllChanged, IsLeft};
 
 use super::bank::TermBank;
 use super::equation::Eqn;
-use super::subst::{Subst, find, is_variable};
+use super::subst::{Subst, find};
+use super::table::{place_by, places_of};
 use super::walk::{Visit, enter};
 use indexmap::IndexMap;
 use law_bank::{Head, Term};
@@ -25,13 +25,13 @@ use law_sig::{NoMemory, SortId, SymId};
 use std::alloc::Global;
 
 /// What is put for the variables of a term: the first variable of the sort, the variable with an index greater by so much, the
-/// term that is bound, or the variable whose index is its place among these of its sort.
+/// term that is bound, or the variable whose index is its place.
 #[derive(Clone, Copy)]
 enum Change<'a, 's> {
     Flat,
     Shift(u32),
     Bind(&'s [(SortId, u32, Term<'a>)]),
-    Renumber(&'s [(SortId, u32)]),
+    Renumber(&'s IndexMap<u64, u32>),
 }
 
 /// What these terms were changed to.
@@ -55,30 +55,6 @@ fn images<'a>(
         }
     }
     Ok(made)
-}
-
-/// Whether two sorts are the same.
-fn same_sort(a: SortId, b: SortId) -> bool
-    ensures { result ≡ same_sort a b }
-{
-    a.0 == b.0
-}
-
-/// How many variables of a sort stand before one of them, or 2^32 - 1 where that is less.
-fn place_among(variables: &[(SortId, u32)], sort: SortId, index: u32) -> u32
-    ensures { result ≡ place_in variables.now sort index }
-{
-    let mut place = 0u32;
-    for at in 0..variables.len() {
-        let variable = variables[at];
-        if is_variable(variable.0, variable.1, sort, index) {
-            return place;
-        }
-        if same_sort(variable.0, sort) {
-            place = place.saturating_add(1);
-        }
-    }
-    place
 }
 
 /// What is put for a variable.
@@ -109,8 +85,8 @@ fn leaf<'a>(
                 Ok(made)
             }
         },
-        Change::Renumber(variables) => {
-            let made = bank.intern(Head::Var(sort, place_among(variables, sort, index)), &[])?;
+        Change::Renumber(places) => {
+            let made = bank.intern(Head::Var(sort, place_by(places, sort, index)), &[])?;
             Ok(made)
         }
     }
@@ -253,7 +229,8 @@ impl<'a> TermBank<'a> {
     {
         let sides = both(self.alloc(), left, right)?;
         let variables = self.variables(sides.as_slice())?;
-        let renumber = Change::Renumber(variables.as_slice());
+        let places = places_of(self.alloc(), variables.as_slice())?;
+        let renumber = Change::Renumber(&places);
         let new_left = changed(self, renumber, left)?;
         let new_right = changed(self, renumber, right)?;
         Ok(Eqn {

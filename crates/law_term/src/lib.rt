@@ -13,6 +13,7 @@ mod order;
 mod pos;
 mod replace;
 mod subst;
+mod table;
 mod vars;
 mod walk;
 mod written;

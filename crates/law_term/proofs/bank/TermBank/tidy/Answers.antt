@@ -1,4 +1,4 @@
-use Rattle.std.proofs.Common.{sym, ◌∙◌, subst, ap₂, List}
+use Rattle.std.proofs.Common.{◌∙◌, refl, subst, ap₂, List}
 use denote.Bor.{Bor}
 use Rattle.law_sig.specs.declared.parts.Equation.{Equation}
 use Rattle.law_bank.specs.declared.node.Node.{Node}
@@ -17,9 +17,10 @@ returns-clause-equation c =
     let b = tree_of c.args.right.now in
     let vs = c.in_ok-variables.variables.items in
     let exact = subst (λ (l : List (Bor Node)). AreVariables (trees_of l) vs) (c.as_slice.ensures.value ∙ c.in_ok-sides.ensures) c.in_ok-variables.ensures.exact in
+    let places = c.in_ok-places.places.entries in
     ap₂ (λ l r. let e : Equation = record { left = l; right = r } in e)
-        (c.in_ok-new_left.ensures.tree ∙ renumbered_left a b vs exact c.in_ok-variables.ensures.small c.as_slice-2.result c.as_slice-2.ensures.value)
-        (c.in_ok-new_right.ensures.tree ∙ renumbered_right a b vs exact c.in_ok-variables.ensures.small c.as_slice-2.result c.as_slice-2.ensures.value)
+        (c.in_ok-new_left.ensures.tree ∙ renumbered_left a b vs exact c.in_ok-variables.ensures.small places c.in_ok-places.ensures _ (λ s i. refl))
+        (c.in_ok-new_right.ensures.tree ∙ renumbered_right a b vs exact c.in_ok-variables.ensures.small places c.in_ok-places.ensures _ (λ s i. refl))
 
 pub returns-clause-held : goal.returns-clause-held
 returns-clause-held c = (

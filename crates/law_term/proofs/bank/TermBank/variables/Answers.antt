@@ -32,7 +32,7 @@ loop-visit-smaller c = fewer_left c.args.self.now c.loop-visit.done.entries c.lo
 pub loop-visit-preserved : goal.loop-visit-preserved
 loop-visit-preserved c = record {
   listing = listing_left c.args.self.now c.args.terms.now c.loop-visit.done.entries c.loop-visit.visits.items c.pop.new.self.items c.in-Leave.node c.loop-visit.found.items
-      c.loop-visit.invariant.listing (c.in-Some.ensures.items ∙ ap (λ (v : Visit). c.pop.new.self.items ++ v ∷ []) c.in-Leave.is) c.note.new.done.entries c.note.new.variables.items
+      c.loop-visit.invariant.listing (c.in-Some.ensures.items ∙ ap (λ (v : Visit). c.pop.new.self.items ++ v ∷ []) c.in-Leave.is) c.shared.ensures c.note.new.done.entries c.note.new.variables.items
       c.in_ok-note-in-Leave.ensures.noted;
   small = c.in_ok-note-in-Leave.ensures.small c.loop-visit.invariant.small;
 }
