@@ -1,5 +1,5 @@
 -- The rules of explored symbols: one after another, and that nothing is passed over.
-use Rattle.std.proofs.Common.{◌≡◌, ℕ, zero, suc, ◌+◌, ◌<◌, ◌≤◌, ◌⊎◌, inl, inr, true≢false, Bool, List, [], ◌∷◌, ◌++◌, length, drop, true, false, Some, option_map, slice_get, slice_index_or, refl, sym, ap, ◌∙◌, subst, arith}
+use Rattle.std.proofs.Common.{◌≡◌, ℕ, zero, suc, ◌+◌, ◌-◌, ◌<◌, ◌≤◌, ◌⊎◌, inl, inr, true≢false, Bool, List, [], ◌∷◌, ◌++◌, length, drop, true, false, Some, option_map, slice_get, slice_index_or, refl, sym, ap, ◌∙◌, subst, arith}
 use Rattle.std.proofs.Math.Nat.{eq-or-lt_of_le}
 use Rattle.std.proofs.lemmas.Bool.{cases_lt}
 use Rattle.law_sig.specs.Signature.{symbol_at, args_of, result_of}
@@ -53,6 +53,20 @@ rule_on parts upto rules after r h is at e =
     let more : suc upto ≡ upto + 1 = omega arith in
     subst (λ l. AreBetween parts 0 (upto + 1) l) (sym e) (subst (λ n. AreBetween parts 0 n (rules ++ r ∷ [])) more
     (rule_more parts 0 upto rules r h is (ap (λ (z : SymId). z.0) at) (omega arith)))
+
+-- How many rules there are
+
+pub rules_short : (parts : SigParts) (n upto : ℕ) (rules : List Rule) → AreBetween parts n upto rules → length rules ≤ upto - n
+rules_short parts n upto [] h = omega arith
+rules_short parts n upto (q ∷ rs) h =
+    let low = h.1 in
+    let high = h.2 in
+    let rest = rules_short parts (suc q.symbol.0) upto rs h.4 in omega arith
+
+pub rules_got : (rules : List Rule) (at : ℕ) (r : Rule) → slice_get rules at ≡ Some r → at < length rules
+rules_got [] at r e = none_is r e
+rules_got (q ∷ rs) zero r e = omega arith
+rules_got (q ∷ rs) (suc at) r e = let h = rules_got rs at r e in omega arith
 
 -- One rule after another
 
