@@ -5,6 +5,7 @@ pub mod Filing
 pub mod Housing
 pub mod Items
 pub mod Walking
+pub mod Opening
 pub mod Making
 pub mod Filling
 pub mod Sounding

@@ -1,8 +1,8 @@
 -- What the code makes of lists: one item changed at its place, and the term of a row.
-use Rattle.std.proofs.Common.{◌≡◌, ◌≢◌, ℕ, zero, suc, ◌-◌, ◌<◌, List, [], ◌∷◌, ◌++◌, length, map, set, Some, slice_get, slice_set, slice_index_or, refl, sym, ap, ap₂, ◌∙◌, subst, arith}
+use Rattle.std.proofs.Common.{◌≡◌, ◌≢◌, ℕ, zero, suc, ◌+◌, ◌-◌, ◌<◌, ◌≤◌, ◌⊎◌, inl, inr, List, [], ◌∷◌, ◌++◌, length, map, set, Some, slice_get, slice_set, slice_index_or, refl, sym, ap, ap₂, ◌∙◌, subst, arith}
 use Rattle.std.specs.Prelude.{Vec}
 use Rattle.std.specs.declared.alloc.Global.{Global}
-use Rattle.std.proofs.lemmas.List.{map-set, get_or-map, length-map}
+use Rattle.std.proofs.lemmas.List.{map-set, get_or-map, length-map, length_push, get_or_append_left, get_or_at, get_or_past}
 use denote.Bor.{Bor}
 use Rattle.law_sig.specs.Lists.{Each}
 use Rattle.law_sig.specs.declared.tree.SortId.{SortId}
@@ -13,16 +13,18 @@ use Rattle.law_bank.specs.Terms.{tree_of, trees_of}
 use Rattle.law_bank.specs.Bank.{Terms, IsOf, AllOf}
 use Rattle.law_listing.specs.declared.pick.Pick.{Pick}
 use Rattle.law_listing.specs.Picks.{IsRow}
+use Rattle.law_listing.proofs.PickFacts.{compared}
 use Rattle.law_schema.specs.declared.rules.Rule.{Rule}
 use Rattle.law_schema.specs.declared.rules.Rules.{Rules}
 use Rattle.law_schema.specs.declared.stock.Entry.{Entry}
 use Rattle.law_schema.specs.declared.stock.Spread.{Spread}
 use Rattle.law_schema.specs.declared.places.Application.{Application}
-use Rattle.law_schema.specs.Columns.{Columns, columns_of, entries_of, schemas_in, filed}
+use Rattle.law_schema.specs.Columns.{Columns, columns_of, bucket, AreFresh, AreBare, entries_of, schemas_in, filed}
 use Rattle.law_schema.specs.Spreads.{live_row}
 use Rattle.law_schema.specs.Places.{AllFiled, IsApplied}
 use Rattle.law_schema.specs.Inside.{with_live}
 use Rattle.law_schema.proofs.ColumnFacts.{entries_are, schemas_are, entries_filed}
+use Rattle.law_schema.proofs.Housing.{maps_append}
 use Rattle.law_schema.proofs.Items.{present}
 
 -- One entry more in its bucket
@@ -41,6 +43,38 @@ pub kept_is : (vecs : List (Vec (List Entry) Global)) (n : ℕ) (v new : Vec (Li
 kept_is [] n v new read made = refl
 kept_is (x ∷ vecs) zero v new read made = ap (λ l. l ∷ columns_of vecs) (made ∙ ap (λ (z : Vec (List Entry) Global). z.items) read)
 kept_is (x ∷ vecs) (suc n) v new read made = ap (λ l. x.items ∷ l) (kept_is vecs n v new read made)
+
+-- One sort more
+
+pub fresh_more : (size n : ℕ) (vecs after : List (Vec (List Entry) Global)) (v : Vec (List Entry) Global) → AreFresh n size (columns_of vecs) → length v.items ≡ size + 1 → AreBare v.items → after ≡ vecs ++ v ∷ []
+    → AreFresh (n + 1) size (columns_of after)
+fresh_more size n vecs after v fresh long bare e = subst (AreFresh (n + 1) size) (sym (ap columns_of e ∙ joined)) (record {
+  long = length_push (columns_of vecs) v.items ∙ ap (λ k. k + 1) fresh.long;
+  places = λ s less. place s less (compared s.0 n);
+  empty = λ s k. empty s k (compared s.0 n);
+})
+  where
+    joined : columns_of (vecs ++ v ∷ []) ≡ columns_of vecs ++ v.items ∷ []
+    joined = maps_append (λ (x : Vec (List Entry) Global). x.items) vecs (v ∷ [])
+
+    old : (s : SortId) → s.0 < n → slice_index_or (columns_of vecs ++ v.items ∷ []) s.0 [] ≡ slice_index_or (columns_of vecs) s.0 []
+    old s less = get_or_append_left (columns_of vecs) (v.items ∷ []) [] s.0 (let h = fresh.long in omega arith)
+
+    own : (s : SortId) → s.0 ≡ n → slice_index_or (columns_of vecs ++ v.items ∷ []) s.0 [] ≡ v.items
+    own s e = get_or_at (columns_of vecs) v.items [] [] s.0 (fresh.long ∙ sym e)
+
+    past : (s : SortId) → n < s.0 → slice_index_or (columns_of vecs ++ v.items ∷ []) s.0 [] ≡ []
+    past s less = get_or_past (columns_of vecs ++ v.items ∷ []) s.0 [] (let h = fresh.long in let k = length_push (columns_of vecs) v.items in omega arith)
+
+    place : (s : SortId) → s.0 < n + 1 → (s.0 ≡ n) ⊎ ((s.0 < n) ⊎ (n < s.0)) → length (slice_index_or (columns_of vecs ++ v.items ∷ []) s.0 []) ≡ size + 1
+    place s less (inl h) = ap length (own s h) ∙ long
+    place s less (inr (inl h)) = ap length (old s h) ∙ fresh.places s h
+    place s less (inr (inr h)) = absurd (omega arith)
+
+    empty : (s : SortId) (k : ℕ) → (s.0 ≡ n) ⊎ ((s.0 < n) ⊎ (n < s.0)) → bucket (columns_of vecs ++ v.items ∷ []) s k ≡ []
+    empty s k (inl h) = ap (λ l. slice_index_or l k []) (own s h) ∙ bare k
+    empty s k (inr (inl h)) = ap (λ l. slice_index_or l k []) (old s h) ∙ fresh.empty s k
+    empty s k (inr (inr h)) = ap (λ l. slice_index_or l k []) (past s h)
 
 -- One live term more of the last schema
 

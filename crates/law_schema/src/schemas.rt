@@ -1,4 +1,4 @@
-ghost use Rattle.std.specs.Prelude.{◌≡◌, ◌≢◌, ◌<◌, length, false, IfOk, OnOk, OnErr};
+ghost use Rattle.std.specs.Prelude.{◌≡◌, ◌≢◌, ◌<◌, [], ◌∷◌, ◌++◌, length, false, IfOk, OnOk, OnErr};
 ghost use Rattle.std.specs.Option.{MatchOption};
 ghost use Rattle.law_sig.specs.declared.parts.SigParts.{SigParts};
 ghost use Rattle.law_bank.specs.Bank.{IsOf, AllOf, Grows};
@@ -73,6 +73,15 @@ fn home(rules: &Rules, place: &Place) -> (SortId, u32)
     }
 }
 
+/// Adds a live term to those of a schema.
+fn admit_to<'a>(spread: &mut Spread<'a>, live: Term<'a>) -> Result<(), NoMemory>
+    ensures schema { spread.new.schema ≡ spread.old.schema }
+    ensures ok { OnOk result (spread.new.lives ≡ spread.old.lives ++ live.entry ∷ []) }
+    ensures err { OnErr result (spread.new.lives ≡ spread.old.lives) }
+{
+    spread.lives.push(live)
+}
+
 /// Adds a live term to the spread schema that came last.
 fn house<'a>(spreads: &mut Vec<Spread<'a>>, live: Term<'a>) -> Result<(), NoMemory>
     requires { 0 < length spreads.old.items }
@@ -80,7 +89,7 @@ fn house<'a>(spreads: &mut Vec<Spread<'a>>, live: Term<'a>) -> Result<(), NoMemo
     ensures err { OnErr result (spreads.new.items ≡ spreads.old.items) }
 {
     let last = spreads.len() - 1;
-    spreads[last].lives.push(live)
+    admit_to(&mut spreads[last], live)
 }
 
 impl<'a> Schemas<'a> {
