@@ -10,7 +10,7 @@ use Rattle.law_sig.specs.declared.tree.Tree.{Tree}
 use Rattle.law_sig.specs.declared.tree.Tree.TheVariants.{Var}
 use Rattle.law_sig.specs.declared.chain.Bind.{Bind}
 use Rattle.law_sig.specs.declared.parts.Equation.{Equation}
-use Rattle.law_laws.proofs.ListFacts.{one_order}
+use Rattle.law_laws.proofs.Agreement.{one_order}
 use Rattle.law_rewriting.specs.Heads.{Sorts, head_sort}
 use Rattle.law_rewriting.specs.Steps.{AreBindsByHead}
 use Rattle.law_rewriting.proofs.Binds.{strict}
@@ -75,7 +75,7 @@ sorted_to : (bank : Terms) (xs : List Binding) → AllBound bank xs → Each Has
 sorted_to bank [] h k = tt
 sorted_to bank (x ∷ xs) h k = (sym (sort_is bank x.2.now h.0) ∙ k.0, sorted_to bank xs h.1 k.1)
 
-to_sorted : (bank : Terms) (xs : List Binding) → AllBound bank xs → Each (λ (b : Bind). head_sort (sorts_by bank.sorts) b.term ≡ b.sort) (binds_of xs) → Each HasOwnSort xs
+pub to_sorted : (bank : Terms) (xs : List Binding) → AllBound bank xs → Each (λ (b : Bind). head_sort (sorts_by bank.sorts) b.term ≡ b.sort) (binds_of xs) → Each HasOwnSort xs
 to_sorted bank [] h k = tt
 to_sorted bank (x ∷ xs) h k = (sort_is bank x.2.now h.0 ∙ k.0, to_sorted bank xs h.1 k.1)
 

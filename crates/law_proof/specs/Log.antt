@@ -70,6 +70,10 @@ pub record IsProof (equations : List Equation) (q : Eqn) (c : Chain) : Type 0 wh
   pub sorted : Each (λ (s : Step). Each HasOwnSort s.subst) c.steps
   pub replays : ReplaysWith (λ (b : Bind). Unit {0}) equations (steps_of c.steps) (tree_of c.from.now) (tree_of c.to.now)
 
+-- whichever equation has the chain's first and last term as its sides: the chain is a proof of it
+abbrev pub Proves : List Equation → Chain → Type 0
+Proves equations c = (q : Eqn) → tree_of c.from.now ≡ tree_of q.left.now → tree_of c.to.now ≡ tree_of q.right.now → IsProof equations q c
+
 -- only a lemma needs a proof
 abbrev pub IsFounded : List Equation → Kept → Type 0
 IsFounded equations (Background q) = Unit {0}
