@@ -1,12 +1,11 @@
 -- A step leads to one term, and a chain goes on from there.
-use Rattle.std.proofs.Common.{◌≡◌, ◌≢◌, ◌↔◌, ℕ, ◌+◌, ◌≤◌, ◌<◌, ◌⊎◌, inl, inr, List, [], ◌∷◌, ◌++◌, length, map, drop, Option, Some, None, MatchOption, slice_index_or, ap, ap₂, sym, ◌∙◌, refl, subst, arith, rules, ◌==◌}
+use Rattle.std.proofs.Common.{◌≡◌, ◌↔◌, ℕ, ◌+◌, ◌≤◌, ◌<◌, List, [], ◌∷◌, ◌++◌, length, drop, Option, Some, None, MatchOption, slice_index_or, ap, sym, ◌∙◌, refl, subst, rules, ◌==◌}
 use Rattle.std.specs.Bool.{IsTrue}
 use Rattle.std.proofs.lemmas.List.{drop_more, drop_all}
 use denote.Bor.{Bor}
 use Rattle.law_sig.specs.Lists.{In, Each, numbered}
 use Rattle.law_sig.specs.Trees.{substituted}
 use Rattle.law_sig.specs.declared.tree.Tree.{Tree}
-use Rattle.law_sig.specs.declared.tree.Tree.TheVariants.{App}
 use Rattle.law_sig.specs.declared.chain.Bind.{Bind}
 use Rattle.law_sig.specs.declared.chain.Dir.{Dir}
 use Rattle.law_sig.specs.declared.chain.Dir.TheVariants as dir
@@ -18,7 +17,7 @@ use Rattle.law_laws.proofs.BodyFacts.{some_is}
 use Rattle.law_laws.proofs.ListFacts.{of_each, each_map}
 use Rattle.law_laws.proofs.TreeFacts.{same_app}
 use Rattle.law_rewriting.specs.Heads.{Sorts}
-use Rattle.law_rewriting.specs.HeadChains.{IsStepWith, ReplaysWith, HasItsHead}
+use Rattle.law_rewriting.specs.HeadChains.{ReplaysWith, HasItsHead}
 use Rattle.law_rewriting.specs.HeadChains.ReplaysWith.{done, next}
 use Rattle.law_rewriting.specs.Steps.{AreBindsByHead}
 use Rattle.law_rewriting.proofs.Chains.{replays_map}
@@ -226,8 +225,7 @@ pub chain_decided : (r : Sorts) (equations : List Equation) (bank : Terms) (step
     → IsTrue (id_of m == id_of n) ↔ ReplaysWith (HasItsHead r) equations (steps_of steps) from (tree_of n)
 chain_decided r equations bank steps items from i m n shared h k same over have =
     let last = arrived r equations items from i (tree_of m) (tree_of n) over have in
-    let ids = same_terms bank m n shared h k in
-    (
+    let ids = same_terms bank m n shared h k in (
       λ e. subst (λ l. ReplaysWith (HasItsHead r) equations (steps_of l) from (tree_of n)) same (last.1 (ids.0 e)),
       λ g. ids.1 (last.0 (subst (λ l. ReplaysWith (HasItsHead r) equations (steps_of l) from (tree_of n)) (sym same) g)),
     )

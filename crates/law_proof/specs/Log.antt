@@ -1,5 +1,5 @@
 -- What a log says: its equations, its chains, and that the chain of each lemma replays by the equations before it.
-use Rattle.std.specs.Prelude.{◌≡◌, ℕ, List, [], ◌∷◌, ◌++◌, map}
+use Rattle.std.specs.Prelude.{◌≡◌, List, [], ◌∷◌, ◌++◌, map}
 use Rattle.law_sig.specs.Lists.{Each}
 use Rattle.law_sig.specs.declared.parts.Equation.{Equation}
 use Rattle.law_sig.specs.declared.chain.Bind.{Bind}

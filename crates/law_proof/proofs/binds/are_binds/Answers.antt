@@ -16,8 +16,7 @@ returns-then-not-have_sorts c = (
 pub returns : goal.returns
 returns c =
     let w = c.in_ok-wanted.ensures.exact c.args.bank.now c.requires.eqn.left c.requires.eqn.right in
-    let sorted = subst (Each HasOwnSort) c.as_slice-bindings.ensures (c.if-not-have_sorts.ensures.0 refl) in
-    (
+    let sorted = subst (Each HasOwnSort) c.as_slice-bindings.ensures (c.if-not-have_sorts.ensures.0 refl) in (
       λ e. are_wanted c.args.bank.now (equation_of c.args.eqn) c.args.subst.now c.requires.bound c.in_ok-wanted.wanted w c.in_ok-wanted.ensures.rising sorted
           (ap (λ (l : List Binding). map variable_of l) (sym c.as_slice.ensures) ∙ c.same_variables-same.ensures.0 e ∙ ap (λ (l : List Binding). map variable_of l) c.as_slice-bindings.ensures),
       λ h. c.same_variables-same.ensures.1

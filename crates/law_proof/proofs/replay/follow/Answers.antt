@@ -1,6 +1,6 @@
-use Rattle.std.proofs.Common.{sym, ◌∙◌, subst, true≢false}
+use Rattle.std.proofs.Common.{sym, ◌∙◌, true≢false}
 use Rattle.law_bank.specs.Terms.{tree_of}
-use Rattle.law_bank.specs.Bank.{IsOf, sorts_by}
+use Rattle.law_bank.specs.Bank.{sorts_by}
 use Rattle.law_bank.proofs.BankFacts.{stays, grows_on, same_tree, same_id}
 use Rattle.law_term.specs.Equations.{equation_of}
 use Rattle.law_proof.specs.Log.{equations_in, step_of}
