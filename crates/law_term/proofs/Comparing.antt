@@ -1,32 +1,30 @@
 -- Two terms compared, step by step.
 use Rattle.std.proofs.Common.{◌≡◌, ℕ, zero, suc, ◌+◌, ◌<◌, ◌≤◌, ◌↔◌, Bool, true, false, ◌==◌, if◌then◌else◌, List, [], ◌∷◌, length, map, drop, slice_index_or, Option, Some, None, IfSome, IsTrue, Ordering, Less, Equal, Greater, nat_cmp, ap, ap₂, sym, ◌∙◌, refl, subst, arith}
-use Rattle.std.specs.Ordering.{ordering_then, MatchOrdering}
+use Rattle.std.specs.Ordering.{ordering_then}
 use Rattle.std.specs.Option.{option_map}
 use Rattle.std.specs.Cmp.Lexicographic.{slice_cmp}
 use Rattle.std.proofs.lemmas.Bool.{eqb-true, eq-eqb}
 use Rattle.std.proofs.lemmas.List.{drop_all, length-drop}
 use denote.Bor.{Bor}
-use Rattle.law_sig.specs.Lists.{In, Each, total}
+use Rattle.law_sig.specs.Lists.{In, total}
 use Rattle.law_sig.specs.Lists.In.{here, there}
 use Rattle.law_sig.specs.Trees.{node_count, schema_of}
-use Rattle.law_sig.specs.Order.{compare_k, explore_cmp}
+use Rattle.law_sig.specs.Order.{compare_k}
 use Rattle.law_sig.specs.Kbo.{HasVarsOf, Kbo}
 use Rattle.law_sig.specs.declared.tree.SortId.{SortId}
 use Rattle.law_sig.specs.declared.tree.SymId.{SymId}
-use Rattle.law_sig.specs.declared.tree.Tree.{Tree}
 use Rattle.law_sig.specs.declared.parts.SigParts.{SigParts}
-use Rattle.law_laws.proofs.BodyFacts.{some_is}
 use Rattle.law_laws.proofs.TreeFacts.{nodes-App}
 use Rattle.law_bank.specs.declared.node.Head.TheVariants.{Var, Sym}
 use Rattle.law_bank.specs.declared.node.Node.{Node, out-Node}
 use Rattle.law_bank.specs.Terms.{tree_of, trees_of, id_of, Fits}
-use Rattle.law_bank.specs.Bank.{Terms, IsOf, AllOf}
+use Rattle.law_bank.specs.Bank.{Terms, IsOf}
 use Rattle.law_bank.specs.Orders.{AreComparable, first_other, roots_cmp, flat_cmp, kbo_cmp}
 use Rattle.law_bank.proofs.BankFacts.{sym_tree, same_tree, here as facts}
 use Rattle.law_bank.proofs.OrderFacts.{k_itself, k_decided, others_comparable, args_comparable, split}
 use Rattle.law_bank.proofs.KboFacts.{kbo_decided}
 use Rattle.law_term.specs.declared.order.Both.{Both}
-use Rattle.law_term.specs.Pairs.{both_of, AreInStead, StandFor, AreGreaterInStead, StandForGreater}
+use Rattle.law_term.specs.Pairs.{both_of, StandFor, StandForGreater}
 use Rattle.law_term.proofs.Bound.{drop_get}
 
 -- The first arguments that are different terms

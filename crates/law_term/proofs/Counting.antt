@@ -1,13 +1,13 @@
 -- How often a variable stands in terms, one after another, and which is the next one.
-use Rattle.std.proofs.Common.{◌≡◌, ℕ, zero, suc, ◌+◌, ◌-◌, ◌*◌, ◌^◌, ◌<◌, ◌≤◌, min, ◌⊎◌, inl, inr, ◌↔◌, Bool, true, false, ◌&&◌, ◌||◌, ◌==◌, nat_lt, if◌then◌else◌, List, [], ◌∷◌, ◌++◌, length, map, take, drop, slice_index_or, Option, Some, None, IsTrue, rules, append-nil, ap, sym, ◌∙◌, refl, subst, arith}
-use Rattle.std.proofs.lemmas.List.{drop_all, map-append}
+use Rattle.std.proofs.Common.{◌≡◌, ℕ, zero, suc, ◌+◌, ◌-◌, ◌*◌, ◌^◌, ◌<◌, ◌≤◌, min, ◌⊎◌, inl, inr, ◌↔◌, Bool, true, false, ◌&&◌, ◌||◌, ◌==◌, nat_lt, if◌then◌else◌, List, [], ◌∷◌, ◌++◌, length, map, take, drop, slice_index_or, Option, Some, None, rules, append-nil, ap, sym, ◌∙◌, refl, subst, arith}
+use Rattle.std.proofs.lemmas.List.{drop_all}
 use Rattle.std.proofs.lemmas.Bool.{eqb-true, eq-eqb}
 use native.Mathlib.Decide.{dec_lt}
 use denote.Bor.{Bor}
 use Rattle.law_sig.specs.Lists.{In, Each, total}
 use Rattle.law_sig.specs.Lists.In.{here, there}
-use Rattle.law_sig.specs.Trees.{same_sort, joined, holes, node_count}
-use Rattle.law_sig.specs.Kbo.{times, HasVarsOf}
+use Rattle.law_sig.specs.Trees.{same_sort, holes, node_count}
+use Rattle.law_sig.specs.Kbo.{times}
 use Rattle.law_sig.specs.Tests.{weight}
 use Rattle.law_sig.specs.declared.tree.SortId.{SortId}
 use Rattle.law_sig.specs.declared.tree.SymId.{SymId}
@@ -21,8 +21,7 @@ use Rattle.law_laws.proofs.TreeFacts.{tree_induct, holes-Var, holes-App, nodes-A
 use Rattle.law_bank.specs.Bindings.{comes_before}
 use Rattle.law_bank.specs.declared.node.Node.{Node}
 use Rattle.law_bank.specs.Terms.{tree_of, trees_of}
-use Rattle.law_bank.specs.Bank.{Terms, capped}
-use Rattle.law_bank.specs.Orders.{AreComparable}
+use Rattle.law_bank.specs.Bank.{capped}
 use Rattle.law_term.specs.Variables.{Variable, holes_in, VarBefore, IsBehind, is_behind, IsUpto, StandsIn, IsFirst}
 use Rattle.law_term.proofs.Bound.{drop_get}
 use Rattle.law_term.proofs.Placing.{trees_append}
@@ -146,8 +145,8 @@ module _ (t : Tree) (f : SymId) (xs before after : List (Bor Node)) (x : Bor Nod
   whole_nodes =
       let a = ap node_count is ∙ nodes-App f (trees_of xs) in
       let b = ap (λ l. total (map node_count (trees_of l))) split
-          ∙ ap (λ l. total (map node_count l)) (trees_append before (x ∷ after))
-          ∙ nodes_append (trees_of before) (trees_of (x ∷ after)) in
+      ∙ ap (λ l. total (map node_count l)) (trees_append before (x ∷ after))
+      ∙ nodes_append (trees_of before) (trees_of (x ∷ after)) in
       omega (arith, a, b)
 
   pub before_fewer : total (map node_count (trees_of before)) < node_count t

@@ -1,23 +1,19 @@
 -- Whether each variable of a term stands in another one at least as often, one variable after another.
-use Rattle.std.proofs.Common.{◌≡◌, ℕ, ◌+◌, ◌-◌, ◌^◌, ◌<◌, ◌≤◌, min, ◌⊎◌, inl, inr, ◌↔◌, Bool, true, false, if◌then◌else◌, List, [], ◌∷◌, ◌++◌, length, Option, Some, None, IsTrue, append-nil, ap, sym, ◌∙◌, refl, subst, arith}
+use Rattle.std.proofs.Common.{◌≡◌, ℕ, ◌+◌, ◌<◌, ◌≤◌, ◌⊎◌, inl, inr, Bool, true, false, if◌then◌else◌, List, [], ◌∷◌, Option, Some, None, append-nil, ap, sym, ◌∙◌, refl, subst, arith}
 use Rattle.law_sig.specs.Lists.{In}
-use Rattle.law_sig.specs.Lists.In.{here, there}
 use Rattle.law_sig.specs.Trees.{holes}
 use Rattle.law_sig.specs.Kbo.{times, HasVarsOf}
-use Rattle.law_sig.specs.Tests.{weight}
-use Rattle.law_sig.specs.declared.tree.SortId.{SortId}
 use Rattle.law_sig.specs.declared.tree.Tree.{Tree}
 use Rattle.law_sig.specs.declared.parts.SigParts.{SigParts}
 use Rattle.law_laws.proofs.ListFacts.{in_none, in_rest}
 use Rattle.law_rewriting.proofs.Vars.{vars, hole_in_vars}
-use Rattle.law_bank.specs.Bindings.{comes_before}
 use Rattle.law_bank.specs.declared.node.Node.{Node}
 use Rattle.law_bank.specs.Terms.{tree_of}
 use Rattle.law_bank.specs.Bank.{Terms, capped}
 use Rattle.law_bank.specs.Orders.{AreComparable}
 use Rattle.law_bank.proofs.OrderFacts.{exact}
 use Rattle.law_term.specs.Variables.{Variable, VarBefore, IsBehind, is_behind, IsUpto, StandsIn, IsFirst}
-use Rattle.law_term.proofs.Counting.{in_tree, times_none, times_light, before_yes, before_no, before_chain, never_before, behind_is}
+use Rattle.law_term.proofs.Counting.{in_tree, times_none, times_light, before_yes, before_chain, never_before, behind_is}
 
 -- How many variables of a term are left
 

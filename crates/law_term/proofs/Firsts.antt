@@ -1,11 +1,10 @@
 -- Numbers each once, in order of first occurrence, and their places.
-use Rattle.std.proofs.Common.{◌≡◌, ℕ, zero, suc, ◌+◌, ◌-◌, ◌^◌, ◌<◌, ◌≤◌, min, ◌⊎◌, inl, inr, Bool, true, false, ◌==◌, if◌then◌else◌, List, [], ◌∷◌, ◌++◌, length, ap, sym, ◌∙◌, refl, subst, arith}
+use Rattle.std.proofs.Common.{◌≡◌, ℕ, zero, suc, ◌+◌, ◌<◌, ◌≤◌, Bool, true, false, ◌==◌, if◌then◌else◌, List, [], ◌∷◌, ◌++◌, length, ap, sym, ◌∙◌, refl, subst, arith}
 use Rattle.std.proofs.lemmas.Bool.{eqb-true, eq-eqb}
 use native.Mathlib.Decide.{dec_lt}
 use Rattle.law_sig.specs.Lists.{In, Each}
 use Rattle.law_sig.specs.Lists.In.{here, there}
 use Rattle.law_sig.specs.Kbo.{times}
-use Rattle.law_laws.proofs.ListFacts.{in_none, in_rest}
 use Rattle.law_rewriting.specs.Pairs.{all_but, firsts, place_of}
 
 eqb_turned : (m n : ℕ) → (m == n) ≡ (n == m)

@@ -1,5 +1,5 @@
 -- Items of lists of terms, one after another.
-use Rattle.std.proofs.Common.{◌≡◌, ℕ, zero, suc, ◌+◌, ◌-◌, ◌^◌, ◌<◌, ◌≤◌, min, List, [], ◌∷◌, length, map, drop, slice_index_or, slice_get, Option, Some, None, MatchOption, IsSome, is_some, Bool, false, true, ap, sym, ◌∙◌, refl, subst, arith}
+use Rattle.std.proofs.Common.{◌≡◌, ℕ, zero, suc, ◌+◌, ◌-◌, ◌^◌, ◌<◌, ◌≤◌, min, List, [], ◌∷◌, length, map, drop, slice_index_or, slice_get, Option, Some, None, MatchOption, IsSome, is_some, Bool, false, ap, sym, ◌∙◌, refl, subst, arith}
 use Rattle.std.specs.Option.{option_copied}
 use Rattle.std.proofs.lemmas.List.{length-map, drop_all}
 use denote.Bor.{Bor}

@@ -1,17 +1,15 @@
 -- The variables of terms are listed, node by node.
-use Rattle.std.proofs.Common.{◌≡◌, ℕ, zero, suc, ◌+◌, ◌-◌, ◌^◌, ◌<◌, ◌≤◌, min, ◌⊎◌, inl, inr, ◌↔◌, Bool, true, false, ◌&&◌, ◌==◌, cond, if◌then◌else◌, List, [], ◌∷◌, ◌++◌, length, map, drop, slice_index_or, Option, Some, None, IsSome, IsTrue, append-nil, append_assoc, ap, ap₂, sym, ◌∙◌, refl, subst, arith}
-use Rattle.std.proofs.lemmas.List.{drop_all}
-use Rattle.std.proofs.lemmas.Bool.{eqb-true, eq-eqb}
-use Rattle.indexmap.specs.IndexMap.{insert_entry}
+use Rattle.std.proofs.Common.{◌≡◌, ℕ, ◌^◌, ◌<◌, ◌⊎◌, inl, inr, Bool, true, false, if◌then◌else◌, List, [], ◌∷◌, ◌++◌, length, map, Option, Some, None, IsSome, append-nil, append_assoc, ap, ap₂, sym, ◌∙◌, refl, subst, arith}
+use Rattle.std.proofs.lemmas.Bool.{eqb-true}
 use denote.Bor.{Bor}
 use Rattle.law_sig.specs.Lists.{In, Each}
-use Rattle.law_sig.specs.Lists.In.{here, there}
+use Rattle.law_sig.specs.Lists.In.{here}
 use Rattle.law_sig.specs.Trees.{same_sort, joined, holes, Subst, substituted}
 use Rattle.law_sig.specs.declared.tree.SortId.{SortId}
 use Rattle.law_sig.specs.declared.tree.Tree.{Tree}
 use Rattle.law_sig.specs.declared.tree.Tree.TheVariants as tree
-use Rattle.law_laws.proofs.ListFacts.{of_each, each_map, each_left, each_right, each_both, in_left, in_right, in_none, in_rest}
-use Rattle.law_laws.proofs.Sorts.{same_sort_is, same_sort_itself, both_true}
+use Rattle.law_laws.proofs.ListFacts.{of_each, each_map, each_right, each_both, in_left, in_right, in_none, in_rest}
+use Rattle.law_laws.proofs.Sorts.{same_sort_is, same_sort_itself}
 use Rattle.law_laws.proofs.TreeFacts.{holes-Var, holes-App}
 use Rattle.law_rewriting.specs.Pairs.{firsts, place_of, renumbering}
 use Rattle.law_rewriting.proofs.Variables.{agreeing}
@@ -25,8 +23,7 @@ use Rattle.law_term.specs.declared.walk.Visit.{Visit}
 use Rattle.law_term.specs.declared.walk.Visit.TheVariants as visit
 use Rattle.law_term.specs.Variables.{Variable, indices, holes_in, place_in, AreVariables}
 use Rattle.law_term.specs.Tables.{Table, place_by, HavePlaces}
-use Rattle.law_term.specs.Walks.{Done, same_id, found, IsVisit, IsReady, entered, IsEntered, own_hole, holes_at, holes_left, IsHeadNoted, IsNewlyNoted, IsNoted, IsListed, IsKnown, IsListing}
-use Rattle.law_term.proofs.Bound.{drop_get}
+use Rattle.law_term.specs.Walks.{Done, found, IsReady, entered, IsEntered, own_hole, holes_at, holes_left, IsHeadNoted, IsNewlyNoted, IsNoted, IsListed, IsKnown, IsListing}
 use Rattle.law_term.proofs.Walking.{found_in, each_insert, ready_less, entered_ready, entered_visited, visited_entered, ready_entered, top_entered, top_left, top_ready, visited_left, done_on, done_own, ready_left}
 use Rattle.law_term.proofs.Firsts.{known, new_once, firsts_in, firsts_twice, place_small}
 
@@ -79,9 +76,6 @@ own_small s u i P f = by (same_sort u s) refl
     by : (b : Bool) → same_sort u s ≡ b → Each P (if b then i ∷ [] else [])
     by true e = (f (same_sort_is u s e), tt)
     by false e = tt
-
-own_indices : (s u : SortId) (i : ℕ) → indices s ((u, i) ∷ []) ≡ own_hole s (Var u i)
-own_indices s u i = refl
 
 -- a variable was put to others, where it wasn't among them
 abbrev IsAdded : Variable → List Variable → List Variable → Type 0

@@ -3,8 +3,7 @@ use Rattle.std.proofs.Common.{◌≡◌, ℕ, zero, suc, ◌+◌, ◌<◌, ◌�
 use Rattle.std.proofs.lemmas.List.{drop_all, map-append, length-append}
 use Rattle.std.proofs.lemmas.Bool.{eq-eqb}
 use denote.Bor.{Bor}
-use Rattle.law_sig.specs.Lists.{In, Each}
-use Rattle.law_sig.specs.Trees.{same_sort, joined, holes, schema_of}
+use Rattle.law_sig.specs.Trees.{same_sort, holes, schema_of}
 use Rattle.law_sig.specs.Tests.{first_of}
 use Rattle.law_sig.specs.declared.tree.SortId.{SortId}
 use Rattle.law_sig.specs.declared.tree.SymId.{SymId}

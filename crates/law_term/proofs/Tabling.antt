@@ -1,14 +1,13 @@
 -- The places of variables in a table, one variable after another.
-use Rattle.std.proofs.Common.{◌≡◌, ℕ, zero, suc, ◌+◌, ◌-◌, ◌*◌, ◌^◌, ◌<◌, ◌≤◌, min, Bool, true, false, ◌&&◌, ◌==◌, if◌then◌else◌, List, [], ◌∷◌, length, drop, slice_index_or, Option, Some, None, MatchOption, ap, sym, ◌∙◌, refl, subst, arith}
+use Rattle.std.proofs.Common.{◌≡◌, ℕ, ◌+◌, ◌-◌, ◌^◌, ◌<◌, ◌≤◌, min, Bool, true, false, ◌&&◌, ◌==◌, if◌then◌else◌, List, [], ◌∷◌, length, drop, slice_index_or, Option, Some, None, MatchOption, ap, sym, ◌∙◌, refl, subst, arith}
 use Rattle.std.proofs.lemmas.List.{drop_all}
 use Rattle.std.proofs.lemmas.Bool.{eqb-true, eq-eqb}
-use Rattle.law_sig.specs.Lists.{In}
 use Rattle.law_sig.specs.Trees.{same_sort}
 use Rattle.law_sig.specs.declared.tree.SortId.{SortId}
 use Rattle.law_laws.proofs.Sorts.{same_sort_is, both_true}
 use Rattle.law_rewriting.specs.Pairs.{place_of}
 use Rattle.law_term.specs.Variables.{Variable, indices, place_in}
-use Rattle.law_term.specs.Tables.{Table, same_key, number_by, number_or, var_key, count_in, place_by, IsCounted, first_number, IsNumberPut, HavePlaces}
+use Rattle.law_term.specs.Tables.{Table, same_key, number_by, number_or, var_key, count_in, IsCounted, first_number, IsNumberPut, HavePlaces}
 use Rattle.law_term.proofs.Bound.{drop_get}
 use Rattle.law_term.proofs.Firsts.{place_within}
 
@@ -38,18 +37,15 @@ module _ (s : SortId) (i : ℕ) where
     at_item : place_on place (slice_index_or vs at d ∷ drop (at + 1) vs) ≡ place_in vs s i
     at_item = ap (place_on place) (sym (drop_get vs at d within)) ∙ is
 
-    pub place_found : (same_sort (slice_index_or vs at d).0 s && ((slice_index_or vs at d).1 == i)) ≡ true → place ≡ place_in vs s i
+    place_found : (same_sort (slice_index_or vs at d).0 s && ((slice_index_or vs at d).1 == i)) ≡ true → place ≡ place_in vs s i
     place_found e = let z = place_here (slice_index_or vs at d) (drop (at + 1) vs) e in let a = at_item in omega (arith, z, a, small)
 
-    pub place_counted : (next : ℕ) → (same_sort (slice_index_or vs at d).0 s && ((slice_index_or vs at d).1 == i)) ≡ false → same_sort (slice_index_or vs at d).0 s ≡ true
+    place_counted : (next : ℕ) → (same_sort (slice_index_or vs at d).0 s && ((slice_index_or vs at d).1 == i)) ≡ false → same_sort (slice_index_or vs at d).0 s ≡ true
         → next ≡ min (place + 1) (2 ^ 32 - 1) → place_on next (drop (at + 1) vs) ≡ place_in vs s i
     place_counted next e p n = let z = place_same (slice_index_or vs at d) (drop (at + 1) vs) e p in let a = at_item in omega (arith, z, a, n)
 
-    pub place_passed : same_sort (slice_index_or vs at d).0 s ≡ false → place_on place (drop (at + 1) vs) ≡ place_in vs s i
+    place_passed : same_sort (slice_index_or vs at d).0 s ≡ false → place_on place (drop (at + 1) vs) ≡ place_in vs s i
     place_passed p = let z = place_other (slice_index_or vs at d) (drop (at + 1) vs) p in let a = at_item in omega (arith, z, a)
-
-  pub place_end : (vs : List Variable) (at place : ℕ) → length vs ≤ at → place < 2 ^ 32 → place_on place (drop at vs) ≡ place_in vs s i → place ≡ place_in vs s i
-  place_end vs at place over small is = let e = ap (λ l. place_of i (indices s l)) (drop_all at vs over) in omega (arith, e, small, is)
 
 -- While places are given
 

@@ -1,5 +1,5 @@
 -- The variables of terms: each once in order of first occurrence, how often one stands there, and one after another in order.
-use Rattle.std.specs.Prelude.{◌≡◌, ℕ, ◌+◌, ◌-◌, ◌<◌, ◌^◌, ◌⊎◌, ◌↔◌, min, Bool, true, List, [], ◌∷◌, ◌++◌, map, if◌then◌else◌, Option, None, Some}
+use Rattle.std.specs.Prelude.{◌≡◌, ℕ, ◌-◌, ◌<◌, ◌^◌, ◌⊎◌, min, Bool, true, List, [], ◌∷◌, map, if◌then◌else◌, Option, None, Some}
 use Rattle.law_sig.specs.Lists.{In}
 use Rattle.law_sig.specs.Trees.{same_sort, joined, holes}
 use Rattle.law_sig.specs.declared.tree.SortId.{SortId}

@@ -104,7 +104,9 @@ fn flat(head: Head) -> Head
 fn compare_flat(a: Term<'_>, b: Term<'_>) -> Ordering
     ensures { result ≡ flat_cmp a.now b.now }
 {
-    a.weight.cmp(&b.weight).then(compare_heads(flat(a.head), flat(b.head)))
+    a.weight
+        .cmp(&b.weight)
+        .then(compare_heads(flat(a.head), flat(b.head)))
 }
 
 /// The order K of the schemas. It recurs as deep as the terms are.
@@ -163,7 +165,9 @@ fn compare_symbols(a: Head, b: Head) -> Ordering
 fn kbo_roots(a: Term<'_>, b: Term<'_>) -> Ordering
     ensures { result ≡ kbo_cmp a.now b.now }
 {
-    a.weight.cmp(&b.weight).then(compare_symbols(a.head, b.head))
+    a.weight
+        .cmp(&b.weight)
+        .then(compare_symbols(a.head, b.head))
 }
 
 /// Whether the first term is greater in the Knuth-Bendix order. It takes no memory, and at each place on its way down time in the

@@ -41,10 +41,7 @@ fn put(places: &mut IndexMap<u64, u32>, key: u64, number: u32) -> Result<(), NoM
 }
 
 /// How many variables of its sort stand before each of these, up to 2^32 - 1.
-pub fn places_of(
-    alloc: Global,
-    variables: &[(SortId, u32)],
-) -> Result<IndexMap<u64, u32>, NoMemory>
+pub fn places_of(alloc: Global, variables: &[(SortId, u32)]) -> Result<IndexMap<u64, u32>, NoMemory>
     ensures { IfOk result (λ places. HavePlaces variables.now places.entries) }
 {
     let mut counts = IndexMap::new(alloc);

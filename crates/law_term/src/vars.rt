@@ -44,7 +44,11 @@ fn take_apart<'a>(args: &'a [Term<'a>]) -> Option<Apart<'a>>
         return None;
     }
     let last = largest(args);
-    Some(Apart { before: &args[..last], term: args[last], after: &args[last + 1..] })
+    Some(Apart {
+        before: &args[..last],
+        term: args[last],
+        after: &args[last + 1..],
+    })
 }
 
 /// How often a variable stands in these terms, or 2^64 - 1 where that is less.

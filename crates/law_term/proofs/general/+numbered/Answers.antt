@@ -1,6 +1,5 @@
-use Rattle.std.proofs.Common.{◌≡◌, ap, sym, ◌∙◌, rules, List}
+use Rattle.std.proofs.Common.{ap, ◌∙◌, rules, List}
 use denote.Bor.{Bor}
-use Rattle.law_sig.specs.declared.tree.Tree.{Tree}
 use Rattle.law_sig.specs.declared.tree.Tree.TheVariants.{App}
 use Rattle.law_bank.specs.declared.node.Node.{Node, out-Node}
 use Rattle.law_bank.specs.declared.node.Node.TheViews.{the_lemmas}
@@ -50,8 +49,7 @@ returns-in_ok-made-in-Var-clause-next t c = next_var_is c.args.vars.now c.args.u
 pub returns-in_ok-made-in-Sym-2-clause-next : goal.returns-in_ok-made-in-Sym-2-clause-next
 returns-in_ok-made-in-Sym-2-clause-next t c =
     let is = sym_tree c.args.term.now c.in-Sym.symbol c.in-Sym.is in
-    let made = c.in_ok-made-in-Sym-2.ensures.tree ∙ ap (λ (l : List (Bor Node)). App c.in-Sym.symbol (trees_of l)) c.as_slice.ensures.value in
-    (
+    let made = c.in_ok-made-in-Sym-2.ensures.tree ∙ ap (λ (l : List (Bor Node)). App c.in-Sym.symbol (trees_of l)) c.as_slice.ensures.value in (
       numbered_schema c.args.vars.now c.args.used.now.items c.loop-arg.used.items (out-Node c.args.term.now).args.now c.loop-arg.args.items c.loop-arg.arg-index c.loop-arg-test.false
           c.loop-arg.invariant.numbering (tree_of c.args.term.now) (tree_of c.in_ok-made-in-Sym-2.made.now) c.in-Sym.symbol is made,
       numbered_next c.args.vars.now c.args.used.now.items c.loop-arg.used.items (out-Node c.args.term.now).args.now c.loop-arg.args.items c.loop-arg.arg-index c.loop-arg-test.false

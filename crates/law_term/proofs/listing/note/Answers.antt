@@ -1,4 +1,4 @@
-use Rattle.std.proofs.Common.{◌⊎◌, inr}
+use Rattle.std.proofs.Common.{inr}
 use Rattle.law_term.proofs.Items.{not_found}
 use Rattle.law_term.proofs.listing.note.Goals as goal
 

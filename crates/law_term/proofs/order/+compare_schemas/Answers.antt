@@ -1,4 +1,4 @@
-use Rattle.std.proofs.Common.{◌+◌, ◌<◌, ◌≤◌, arith}
+use Rattle.std.proofs.Common.{arith}
 use Rattle.law_term.proofs.Comparing.{schemas_same, schemas_less, schemas_greater, schemas_spent, schemas_fewer, schemas_all, pair_comparable, pair_less, pair_greater, pair_equal}
 use Rattle.law_term.proofs.order.+compare_schemas.Goals as goal
 
@@ -26,7 +26,7 @@ pub loop-at-preserved : goal.loop-at-preserved
 loop-at-preserved t c = record {
   within = omega (arith, c.if-at-rights.false);
   rest = λ bank parts w. pair_equal bank parts c.args.a.now c.args.b.now w c.compare_flat.result c.compare_flat.ensures c.in-Equal.is c.loop-at.at (c.loop-at.invariant.rest bank parts w) _ _ c.loop-at-test.true (omega (arith, c.if-at-rights.false)) c.compare_schemas.result
-    (c.compare_schemas.ensures bank parts (pair_comparable bank parts c.args.a.now c.args.b.now w c.compare_flat.result c.compare_flat.ensures c.in-Equal.is c.loop-at.at (c.loop-at.invariant.rest bank parts w) _ _ c.loop-at-test.true (omega (arith, c.if-at-rights.false)))) c.in-Equal-compare_schemas.is;
+      (c.compare_schemas.ensures bank parts (pair_comparable bank parts c.args.a.now c.args.b.now w c.compare_flat.result c.compare_flat.ensures c.in-Equal.is c.loop-at.at (c.loop-at.invariant.rest bank parts w) _ _ c.loop-at-test.true (omega (arith, c.if-at-rights.false)))) c.in-Equal-compare_schemas.is;
 }
 
 pub returns-then-lefts-rights : goal.returns-then-lefts-rights

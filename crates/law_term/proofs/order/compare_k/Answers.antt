@@ -1,5 +1,5 @@
-use Rattle.law_term.proofs.Comparing.{stand_start, stand_roots, stand_on, stand_end, less_other, greater_other}
-use Rattle.std.proofs.Common.{Less, Greater, sym}
+use Rattle.law_term.proofs.Comparing.{stand_roots, stand_on, stand_end, less_other, greater_other}
+use Rattle.std.proofs.Common.{Less, Greater}
 use Rattle.law_term.proofs.order.compare_k.Goals as goal
 
 pub returns-in-Less : goal.returns-in-Less

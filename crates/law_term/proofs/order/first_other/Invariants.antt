@@ -1,4 +1,4 @@
-use Rattle.std.proofs.Common.{◌≡◌, ◌≤◌, length, drop}
+use Rattle.std.proofs.Common.{◌≡◌, drop}
 use Rattle.law_bank.specs.Orders.{first_other}
 use Rattle.law_term.proofs.order.first_other.Given as goal
 

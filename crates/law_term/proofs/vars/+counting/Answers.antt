@@ -1,4 +1,4 @@
-use Rattle.std.proofs.Common.{◌≡◌, ◌+◌, ◌*◌, ◌<◌, ◌≤◌, ◌∙◌, sym, arith, true, false, map}
+use Rattle.std.proofs.Common.{◌+◌, ◌*◌, ◌<◌, ◌≤◌, ◌∙◌, sym, arith, true, false, map}
 use Rattle.law_sig.specs.Lists.{total}
 use Rattle.law_sig.specs.Trees.{node_count}
 use Rattle.law_bank.proofs.BankFacts.{var_tree, sym_tree}
@@ -10,19 +10,19 @@ use Rattle.law_term.proofs.vars.+counting.Goals as goal
 pub occurrences-returns-then-is_variable : goal.occurrences-returns-then-is_variable
 occurrences-returns-then-is_variable t c =
     let k = count_var c.args.sort c.args.index (tree_of c.loop-at.at.term.now) c.in-Var.own c.in-Var.number (in_tree c.args.sort c.args.index (tree_of c.args.term.now)) c.loop-at.count
-        (var_tree c.loop-at.at.term.now c.in-Var.own c.in-Var.number c.in-Var.is) c.loop-at.invariant.small c.loop-at.invariant.so_far true (sym c.if-is_variable.true ∙ c.is_variable.ensures) in
+    (var_tree c.loop-at.at.term.now c.in-Var.own c.in-Var.number c.in-Var.is) c.loop-at.invariant.small c.loop-at.invariant.so_far true (sym c.if-is_variable.true ∙ c.is_variable.ensures) in
     let s = c.saturating_add.ensures in omega (arith, k, s)
 
 pub occurrences-returns-in-Var : goal.occurrences-returns-in-Var
 occurrences-returns-in-Var t c =
     let k = count_var c.args.sort c.args.index (tree_of c.loop-at.at.term.now) c.in-Var.own c.in-Var.number (in_tree c.args.sort c.args.index (tree_of c.args.term.now)) c.loop-at.count
-        (var_tree c.loop-at.at.term.now c.in-Var.own c.in-Var.number c.in-Var.is) c.loop-at.invariant.small c.loop-at.invariant.so_far false (sym c.if-is_variable.false ∙ c.is_variable.ensures) in
+    (var_tree c.loop-at.at.term.now c.in-Var.own c.in-Var.number c.in-Var.is) c.loop-at.invariant.small c.loop-at.invariant.so_far false (sym c.if-is_variable.false ∙ c.is_variable.ensures) in
     let s = c.loop-at.invariant.small in omega (arith, k, s)
 
 pub occurrences-returns-in_default-take_apart : goal.occurrences-returns-in_default-take_apart
 occurrences-returns-in_default-take_apart t c =
     count_none c.args.sort c.args.index (tree_of c.loop-at.at.term.now) c.in_default.field-0 (out-Node c.loop-at.at.term.now).args.now (in_tree c.args.sort c.args.index (tree_of c.args.term.now)) c.loop-at.count
-        (sym_tree c.loop-at.at.term.now c.in_default.field-0 c.in_default.is) c.in_default-take_apart.ensures c.loop-at.invariant.small c.loop-at.invariant.so_far
+    (sym_tree c.loop-at.at.term.now c.in_default.field-0 c.in_default.is) c.in_default-take_apart.ensures c.loop-at.invariant.small c.loop-at.invariant.so_far
 
 pub occurrences-occurrences_among-requires : goal.occurrences-occurrences_among-requires
 occurrences-occurrences_among-requires t c =

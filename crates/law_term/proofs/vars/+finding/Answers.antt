@@ -1,4 +1,4 @@
-use Rattle.std.proofs.Common.{◌≡◌, ◌+◌, ◌*◌, ◌<◌, ◌≤◌, [], ◌∷◌, sym, subst, arith, map}
+use Rattle.std.proofs.Common.{◌+◌, ◌*◌, ◌<◌, ◌≤◌, [], ◌∷◌, sym, subst, arith, map}
 use Rattle.law_sig.specs.Lists.{total}
 use Rattle.law_sig.specs.Trees.{node_count}
 use Rattle.law_bank.proofs.BankFacts.{var_tree, sym_tree}

@@ -1,5 +1,5 @@
 use Rattle.std.proofs.Common.{refl}
-use Rattle.law_term.proofs.Covering.{covered_fewer, covered_on, covered_no, covered_all}
+use Rattle.law_term.proofs.Covering.{covered_fewer, covered_on, covered_all}
 use Rattle.law_term.proofs.vars.has_vars_of.Goals as goal
 
 pub loop-sort-smaller : goal.loop-sort-smaller

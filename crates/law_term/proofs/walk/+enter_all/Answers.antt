@@ -1,5 +1,3 @@
-use Rattle.std.proofs.Common.{◌∷◌, [], ◌++◌, append_assoc, ap, sym, ◌∙◌}
-use Rattle.law_term.specs.Walks.{entered}
 use Rattle.law_term.proofs.Bound.{first_rest}
 use Rattle.law_term.proofs.Walking.{entered_more}
 use Rattle.law_term.proofs.walk.+enter_all.Goals as goal
