@@ -181,6 +181,12 @@ has_place s is b sort w e home =
     let column = is.shaped.places sort declared in
     record { sort = omega arith; weight = omega arith }
 
+abbrev spread_of : Bor Node → List (Bor Node) → Spread
+spread_of b lives = record { schema = b; lives = lives }
+
+abbrev entry_of : Bor Node → ℕ → Entry
+entry_of b number = record { schema = b; number = number }
+
 pub spread_sound : (s : Inside) → IsSound s → s.turn ≡ turn.Given → (b : Bor Node) → s.schema ≡ Some b → (sort : SortId) (w : ℕ) → IsHome s.rules s.place sort w
     → (block : Block) → IsBlock s.rules s.spreads.items (tree_of b.now) None block
     → (spreads : Vec Spread Global) → spreads.items ≡ s.spreads.items ++ record { schema = b; lives = [] } ∷ []
@@ -230,6 +236,18 @@ spread_sound s is given_last b schema_is sort w home block block_is spreads spre
         spread_right parts s.spreads.items (columns_of s.columns.items) (filed (columns_of s.columns.items) sort w entry) new refl r
         (stocked_more (columns_of s.columns.items) sort w entry has parts (schema_trees s.spreads.items) r.stocked (sym (longer ∙ long))
         (considered_schema parts (schema_trees s.spreads.items) (tree_of b.now) r.stocked.flat r.reached.considered) h.weighs h.sorted (r.reached.fresh refl))
+
+-- as the code counts on
+pub spread_known : (s : Inside) → IsSound s → (v : Course) → course_in s ≡ v → v.turn ≡ turn.Given → (b : Bor Node) → s.schema ≡ Some b → (sort : SortId) (w : ℕ) → IsHome s.rules s.place sort w
+    → (block : Block) (columns_read : List (Vec (List Entry) Global)) (spreads_read : List Spread) → columns_read ≡ s.columns.items → spreads_read ≡ s.spreads.items
+    → ((t : Tree) → IsAt s.rules (columns_of columns_read) s.place t → AreLinked spreads_read (columns_of columns_read) → IsBlock s.rules spreads_read t None block)
+    → (number : ℕ) → number ≡ length s.spreads.items → (lives : List (Bor Node)) → lives ≡ [] → (spreads : Vec Spread Global) → spreads.items ≡ s.spreads.items ++ record { schema = b; lives = lives } ∷ []
+    → (columns : Vec (Vec (List Entry) Global) Global) → columns_of columns.items ≡ filed (columns_of s.columns.items) sort w (record { schema = b; number = number })
+    → IsSound (record s { spreads = spreads; columns = columns; block = block; turn = turn.Spread })
+spread_known s is v e given_last b schema_is sort w home block columns_read spreads_read columns_is spreads_is opens number number_is lives lives_are spreads spreads_are columns columns_are =
+    spread_sound s is (ap (λ (z : Course). z.turn) e ∙ given_last) b schema_is sort w home block
+    (subst₂ (λ l k. IsAt s.rules (columns_of l) s.place (tree_of b.now) → AreLinked k (columns_of l) → IsBlock s.rules k (tree_of b.now) None block) columns_is spreads_is (opens (tree_of b.now)) (stands_at s is b schema_is) is.linked)
+    spreads (spreads_are ∙ ap (λ l. s.spreads.items ++ spread_of b l ∷ []) lives_are) columns (columns_are ∙ ap (λ n. filed (columns_of s.columns.items) sort w (entry_of b n)) number_is)
 
 -- Instances
 

@@ -10,3 +10,4 @@ pub mod Making
 pub mod Filling
 pub mod Sounding
 pub mod Calls
+pub mod Coming

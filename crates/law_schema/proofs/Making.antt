@@ -26,6 +26,7 @@ use Rattle.law_schema.specs.Inside.{with_live}
 use Rattle.law_schema.proofs.ColumnFacts.{entries_are, schemas_are, entries_filed}
 use Rattle.law_schema.proofs.Housing.{maps_append}
 use Rattle.law_schema.proofs.Items.{present}
+use Rattle.law_schema.proofs.Sounding.{with_live_is, housing}
 
 -- One entry more in its bucket
 
@@ -84,21 +85,12 @@ spread b lives = record { schema = b; lives = lives }
 whole : (z w : Spread) → z.schema ≡ w.schema → z.lives ≡ w.lives → z ≡ w
 whole z w p q = ap₂ spread p q
 
-pub housed_is : (xs : List Spread) (b : Bor Node) (n : ℕ) (x new : Spread) → suc n ≡ length xs → x ≡ slice_index_or xs n x → new.schema ≡ x.schema → new.lives ≡ x.lives ++ b ∷ []
-    → slice_set xs n new ≡ with_live xs b
-housed_is [] b n x new e read schema lives = absurd (omega arith)
-housed_is (y ∷ []) b zero x new e read schema lives = ap (λ z. z ∷ []) (same y read)
-  where
-    same : (y : Spread) → x ≡ y → new ≡ record { schema = y.schema; lives = y.lives ++ b ∷ [] }
-    same y e = whole new (record { schema = y.schema; lives = y.lives ++ b ∷ [] }) (schema ∙ ap (λ (z : Spread). z.schema) e) (lives ∙ ap (λ (z : Spread). z.lives ++ b ∷ []) e)
-housed_is (y ∷ []) b (suc n) x new e read schema lives = absurd (omega arith)
-housed_is (y ∷ z ∷ xs) b zero x new e read schema lives = absurd (omega arith)
-housed_is (y ∷ z ∷ xs) b (suc n) x new e read schema lives = ap (λ l. y ∷ l) (housed_is (z ∷ xs) b n x new (omega arith) read schema lives)
+pub housed_is : (xs rest after : List Spread) (b : Bor Node) (x new : Spread) → xs ≡ rest ++ x ∷ [] → after ≡ rest ++ new ∷ [] → new.schema ≡ x.schema → new.lives ≡ x.lives ++ b ∷ [] → after ≡ with_live xs b
+housed_is xs rest after b x new xs_is after_is schema lives =
+    after_is ∙ ap (λ z. rest ++ z ∷ []) (whole new (housing x b) schema lives) ∙ sym (ap (λ l. with_live l b) xs_is ∙ with_live_is rest x b)
 
-pub unhoused_is : (xs : List Spread) (n : ℕ) (x new : Spread) → x ≡ slice_index_or xs n x → new.schema ≡ x.schema → new.lives ≡ x.lives → slice_set xs n new ≡ xs
-unhoused_is [] n x new read schema lives = refl
-unhoused_is (y ∷ xs) zero x new read schema lives = ap (λ z. z ∷ xs) (whole new x schema lives ∙ read)
-unhoused_is (y ∷ xs) (suc n) x new read schema lives = ap (λ l. y ∷ l) (unhoused_is xs n x new read schema lives)
+pub unhoused_is : (xs rest after : List Spread) (x new : Spread) → xs ≡ rest ++ x ∷ [] → after ≡ rest ++ new ∷ [] → new.schema ≡ x.schema → new.lives ≡ x.lives → after ≡ xs
+unhoused_is xs rest after x new xs_is after_is schema lives = after_is ∙ ap (λ z. rest ++ z ∷ []) (whole new x schema lives) ∙ sym xs_is
 
 -- Terms of rows
 

@@ -88,8 +88,14 @@ fn house<'a>(spreads: &mut Vec<Spread<'a>>, live: Term<'a>) -> Result<(), NoMemo
     ensures ok { OnOk result (spreads.new.items ≡ with_live spreads.old.items live.entry) }
     ensures err { OnErr result (spreads.new.items ≡ spreads.old.items) }
 {
-    let last = spreads.len() - 1;
-    admit_to(&mut spreads[last], live)
+    let Some(mut last) = spreads.pop() else {
+        unreachable!()
+    };
+    let admitted = admit_to(&mut last, live);
+    let Ok(()) = spreads.push(last) else {
+        unreachable!()
+    };
+    admitted
 }
 
 impl<'a> Schemas<'a> {
