@@ -1,5 +1,6 @@
 -- Terms whose variables have low indices.
-use Rattle.std.proofs.Common.{◌≡◌, ℕ, ◌+◌, ◌<◌, ◌^◌, ◌⊎◌, inl, inr, Bool, true, false, if◌then◌else◌, List, [], ◌∷◌, map, subst, sym, ◌∙◌, arith}
+use Rattle.std.proofs.Common.{◌≡◌, ℕ, ◌+◌, ◌<◌, ◌^◌, ◌⊎◌, inl, inr, Bool, true, false, if◌then◌else◌, List, [], ◌∷◌, map, Result, Ok, Err, IfOk, subst, sym, ◌∙◌, ap, arith}
+use denote.Bor.{Bor}
 use Rattle.law_sig.specs.Lists.{In, Each}
 use Rattle.law_sig.specs.Trees.{joined, holes, same_sort}
 use Rattle.law_sig.specs.declared.tree.SortId.{SortId}
@@ -8,6 +9,8 @@ use Rattle.law_sig.specs.declared.tree.Tree.{Tree}
 use Rattle.law_sig.specs.declared.tree.Tree.TheVariants.{Var, App}
 use Rattle.law_laws.proofs.ListFacts.{in_none, in_rest, in_split}
 use Rattle.law_laws.proofs.TreeFacts.{holes-Var, holes-App}
+use Rattle.law_bank.specs.declared.node.Node.{Node}
+use Rattle.law_bank.specs.Terms.{tree_of, trees_of}
 use Rattle.law_acceptance.specs.Low.{IsLow}
 
 pub low_var : (t : Tree) (s : SortId) (i : ℕ) → t ≡ Var s i → i + 3 < 2 ^ 32 → IsLow t
@@ -31,3 +34,13 @@ all_low (t ∷ ts) h sort index at = by (all_low ts h.1 sort index) (in_split (h
 
 pub low_app : (t : Tree) (f : SymId) (ts : List Tree) → t ≡ App f ts → Each IsLow ts → IsLow t
 low_app t f ts e h = subst IsLow (sym e) (λ sort index at. all_low ts h sort index (subst (In index) (holes-App sort f ts) at))
+
+trees_low : (xs : List (Bor Node)) → Each (λ (x : Bor Node). IsLow (tree_of x.now)) xs → Each IsLow (trees_of xs)
+trees_low [] h = tt
+trees_low (x ∷ xs) h = (h.0, trees_low xs h.1)
+
+-- what was made of such terms
+pub applied_low : {E : Type 0} (made : Result (Bor Node) E) (f : SymId) (xs ys : List (Bor Node)) → xs ≡ ys → IfOk made (λ (t : Bor Node). tree_of t.now ≡ App f (trees_of xs))
+    → Each (λ (x : Bor Node). IsLow (tree_of x.now)) ys → IfOk made (λ (t : Bor Node). IsLow (tree_of t.now))
+applied_low (Ok t) f xs ys e h k = low_app (tree_of t.now) f (trees_of ys) (h ∙ ap (λ l. App f (trees_of l)) e) (trees_low ys k)
+applied_low (Err n) f xs ys e h k = tt

@@ -525,7 +525,11 @@ fn have_variables(
     let mut bank = bank(alloc, &arena, sig)?;
     let left = bank.from_tree(a)?;
     let right = bank.from_tree(b)?;
-    let found = bank.variables(&[left, right])?;
+    let mut terms = Vec::new(alloc);
+    let (Ok(()), Ok(())) = (terms.push(left), terms.push(right)) else {
+        return Err(NoMemory);
+    };
+    let found = bank.variables(terms.as_slice())?;
     Ok(found.as_slice() == expected)
 }
 

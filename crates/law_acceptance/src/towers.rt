@@ -29,15 +29,59 @@ fn bank<'a>(alloc: Global, arena: &'a Bump<Global>) -> TermBank<'a> {
     TermBank::new(alloc, arena, Seq::new(alloc), Seq::new(alloc))
 }
 
-fn more<'a>(bank: &mut TermBank<'a>, term: Term<'a>, shape: Shape) -> Result<Term<'a>, NoMemory>
-    requires { IsOf bank.old term.now }
+/// A term on the way: a loop moves it along, which it can't do with a reference.
+#[derive(Clone, Copy)]
+pub struct Top<'a> {
+    pub term: Term<'a>,
+}
+
+/// A symbol over a term.
+fn once<'a>(bank: &mut TermBank<'a>, term: Term<'a>) -> Result<Term<'a>, NoMemory>
+    requires held { IsOf bank.old term.now }
+    requires low { IsLow (tree_of term.now) }
     ensures held { IfOk result (λ t. IsOf bank.new t.now) }
-    ensures low { IfOk result (λ t. IsLow (tree_of term.now) → IsLow (tree_of t.now)) }
+    ensures low { IfOk result (λ t. IsLow (tree_of t.now)) }
+{
+    let mut args = Vec::new(bank.alloc());
+    let Ok(()) = args.push(term) else {
+        return Err(NoMemory);
+    };
+    bank.intern(Head::Sym(ONCE), args.as_slice())
+}
+
+/// A symbol over two terms.
+fn twice<'a>(
+    bank: &mut TermBank<'a>,
+    left: Term<'a>,
+    right: Term<'a>,
+) -> Result<Term<'a>, NoMemory>
+    requires left { IsOf bank.old left.now }
+    requires right { IsOf bank.old right.now }
+    requires low_left { IsLow (tree_of left.now) }
+    requires low_right { IsLow (tree_of right.now) }
+    ensures held { IfOk result (λ t. IsOf bank.new t.now) }
+    ensures low { IfOk result (λ t. IsLow (tree_of t.now)) }
     ensures grows { Grows bank.old bank.new }
 {
+    let mut args = Vec::new(bank.alloc());
+    let Ok(()) = args.push(left) else {
+        return Err(NoMemory);
+    };
+    let Ok(()) = args.push(right) else {
+        return Err(NoMemory);
+    };
+    bank.intern(Head::Sym(TWICE), args.as_slice())
+}
+
+fn more<'a>(bank: &mut TermBank<'a>, term: Term<'a>, shape: Shape) -> Result<Term<'a>, NoMemory>
+    requires held { IsOf bank.old term.now }
+    requires low { IsLow (tree_of term.now) }
+    ensures held { IfOk result (λ t. IsOf bank.new t.now) }
+    ensures low { IfOk result (λ t. IsLow (tree_of t.now)) }
+{
     match shape {
-        Shape::Wide => bank.intern(Head::Sym(TWICE), &[term, term]),
-        Shape::Deep => bank.intern(Head::Sym(ONCE), &[term]),
+        Shape::Wide => twice(bank, term, term),
+        Shape::Deep => once(bank, term),
     }
 }
 
@@ -53,11 +97,12 @@ fn over<'a>(
     ensures held { IfOk result (λ t. IsOf bank.new t.now) }
     ensures low { IfOk result (λ t. IsLow (tree_of t.now)) }
 {
-    let mut term = below;
+    let mut top = Top { term: below };
     for _ in 0..times {
-        term = more(bank, term, shape)?;
+        let term = more(bank, top.term, shape)?;
+        top = Top { term };
     }
-    Ok(term)
+    Ok(top.term)
 }
 
 /// The same over a variable.
@@ -170,12 +215,12 @@ fn is_replaced_wide(alloc: Global, times: u32) -> Result<bool, NoMemory> {
     let arena = Bump::new(alloc);
     let mut bank = bank(alloc, &arena);
     let below = tower(&mut bank, 1, Shape::Wide, times)?;
-    let term = more(&mut bank, below, Shape::Wide)?;
+    let term = twice(&mut bank, below, below)?;
     let place = first_places(alloc, 1)?;
     let made = bank.replace_at(term, &place, term)?;
     let below = tower(&mut bank, 1, Shape::Wide, times)?;
-    let term = more(&mut bank, below, Shape::Wide)?;
-    let expected = bank.intern(Head::Sym(TWICE), &[term, below])?;
+    let term = twice(&mut bank, below, below)?;
+    let expected = twice(&mut bank, term, below)?;
     match made {
         Some(made) => Ok(made.id == expected.id),
         None => Ok(false),

@@ -5,6 +5,6 @@ use Rattle.law_acceptance.proofs.towers.over.Given as goal
 
 abbrev pub invariant-loop : goal.invariant-loop
 invariant-loop l = record {
-  held : IsOf l.bank l.term.now;
-  low : IsLow (tree_of l.term.now);
+  held : IsOf l.bank l.top.term.now;
+  low : IsLow (tree_of l.top.term.now);
 }
