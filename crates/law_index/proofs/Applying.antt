@@ -1,5 +1,6 @@
 -- An equation at the root of a term, by a match with its bindings filled.
-use Rattle.std.proofs.Common.{◌≡◌, ◌↔◌, ◌<◌, ◌≤◌, ◌^◌, ◌-◌, ℕ, ◌⊎◌, inl, inr, List, [], ◌∷◌, map, Option, Some, None, MatchOption, Less, sym, refl, ap, ◌∙◌, subst, arith}
+use Rattle.std.proofs.Common.{◌≡◌, ◌↔◌, ◌<◌, ◌≤◌, ◌^◌, ◌-◌, ℕ, ◌⊎◌, inl, inr, List, [], ◌∷◌, length, slice_get, slice_index_or, map, Option, Some, None, MatchOption, Less, sym, refl, ap, ◌∙◌, subst, arith}
+use Rattle.std.proofs.lemmas.Option.{slice_get-get_or}
 use denote.Bor.{Bor}
 use Rattle.law_sig.specs.Lists.{In}
 use Rattle.law_sig.specs.Trees.{holes, substituted}
@@ -13,7 +14,7 @@ use Rattle.law_sig.specs.declared.chain.Dir.{Dir}
 use Rattle.law_sig.specs.declared.chain.Dir.TheVariants as dir
 use Rattle.law_sig.specs.declared.parts.SigParts.{SigParts}
 use Rattle.law_sig.specs.declared.parts.Equation.{Equation}
-use Rattle.law_rewriting.specs.Heads.{sorts_in}
+use Rattle.law_rewriting.specs.Heads.{Sorts, sorts_in}
 use Rattle.law_rewriting.specs.Unifiers.{IsMatch, HasNoMatch}
 use Rattle.law_rewriting.specs.Roots.{IsFilling, AppliesNot}
 use Rattle.law_rewriting.proofs.Rooted.{match_applies, match_fails, no_match_fails}
@@ -21,16 +22,16 @@ use Rattle.law_bank.specs.declared.node.Node.{Node, out-Node}
 use Rattle.law_bank.specs.Terms.{tree_of}
 use Rattle.law_bank.specs.Bank.{Terms, IsOf, Grows, sorts_by}
 use Rattle.law_bank.specs.Bindings.{Binding, binds_of, subst_of, AreRising}
+use Rattle.law_bank.proofs.BankFacts.{sorts_are}
 use Rattle.law_term.specs.declared.equation.Eqn.{Eqn}
 use Rattle.law_term.specs.Substs.{variable_of}
 use Rattle.law_term.specs.Equations.{equation_of}
 use Rattle.law_match.specs.Directed.{directed, IsEqnOf}
 use Rattle.law_match.specs.Visited.{AreVariables}
 use Rattle.law_match.specs.Filled.{Binds, AreFilled}
-use Rattle.law_index.specs.Index.{Agree, IsBankOf, AppliesBy}
+use Rattle.law_index.specs.Index.{IsSignatureOf, AppliesBy}
 use Rattle.law_index.specs.declared.side.Rule.{Rule}
 use Rattle.law_index.specs.Sides.{HasVariables}
-use Rattle.law_index.proofs.Agreeing.{match_over, no_match_over}
 
 -- Sides
 
@@ -92,15 +93,48 @@ module _ (parts : SigParts) (q : Equation) (d : Dir) (t : Tree) (matched binds v
 
 -- A signature of the bank
 
-module _ (parts : SigParts) (bank : Terms) (t : Tree) (b : IsBankOf parts bank t) where
-  agree_back : Agree (sorts_by bank.sorts) (sorts_in parts) t
-  agree_back f at = sym (b.sorts f at)
+module _ (parts : SigParts) (bank : Terms) (t : Tree) (b : IsSignatureOf parts bank) where
+  same_sorts : sorts_by bank.sorts ≡ sorts_in parts
+  same_sorts = λ j f. (sym (sorts_are parts.symbols f.0 ∙ ap (λ z. sorts_by z f) b.sorts)) j
 
-  pub matched_in : (p : Tree) (binds : List Binding) → AreRising binds → IsMatch (sorts_by bank.sorts) p t (binds_of binds) → IsMatch (sorts_in parts) p t (binds_of binds)
-  matched_in p binds rising m = match_over (sorts_by bank.sorts) (sorts_in parts) p t agree_back (binds_of binds) rising m
+  pub matched_in : (p : Tree) (binds : List Binding) → IsMatch (sorts_by bank.sorts) p t (binds_of binds) → IsMatch (sorts_in parts) p t (binds_of binds)
+  matched_in p binds m = subst (λ r. IsMatch r p t (binds_of binds)) same_sorts m
 
   pub unmatched_in : (q : Equation) (d : Dir) (p : Tree) → p ≡ start_side d q → HasNoMatch (sorts_by bank.sorts) p t → AppliesNot parts q d t
-  unmatched_in q d p e n = no_match_fails parts q d t (subst (λ z. HasNoMatch (sorts_in parts) z t) e (no_match_over (sorts_by bank.sorts) (sorts_in parts) p t agree_back n))
+  unmatched_in q d p e n = no_match_fails parts q d t (subst (λ z. HasNoMatch (sorts_in parts) z t) e (subst (λ r. HasNoMatch r p t) same_sorts n))
 
   pub weights_on : (new : Terms) → Grows bank new → parts.settings.weights ≡ new.weights
   weights_on new g = b.weights ∙ sym (ap (λ (z : Terms). z.weights) g.1)
+
+  pub signature_stays : (new : Terms) → Grows bank new → IsSignatureOf parts new
+  signature_stays new g = record { sorts = b.sorts ∙ sym (ap (λ (z : Terms). z.sorts) g.1); weights = weights_on new g }
+
+-- What a match found
+
+module _ (r : Sorts) (p t : Tree) (o : Option (List Binding)) (m : MatchOption o (HasNoMatch r p t) (λ s. IsMatch r p t (binds_of s))) where
+  pub none_matched : o ≡ None → HasNoMatch r p t
+  none_matched e = subst (λ z. MatchOption z (HasNoMatch r p t) (λ s. IsMatch r p t (binds_of s))) e m
+
+  pub some_matched : (s : List Binding) → o ≡ Some s → IsMatch r p t (binds_of s)
+  some_matched s e = subst (λ z. MatchOption z (HasNoMatch r p t) (λ s. IsMatch r p t (binds_of s))) e m
+
+module _ (parts : SigParts) (q : Equation) (d : Dir) (t : Tree) (o : Option (List Binding)) (m : MatchOption o (AppliesNot parts q d t) (AppliesBy parts q d t)) where
+  pub none_applies : o ≡ None → AppliesNot parts q d t
+  none_applies e = subst (λ z. MatchOption z (AppliesNot parts q d t) (AppliesBy parts q d t)) e m
+
+  pub some_applies : (s : List Binding) → o ≡ Some s → AppliesBy parts q d t s
+  some_applies s e = subst (λ z. MatchOption z (AppliesNot parts q d t) (AppliesBy parts q d t)) e m
+
+pub left_is : (d : Dir) (q sides : Eqn) → sides ≡ directed d q → tree_of sides.left.now ≡ start_side d (equation_of q)
+left_is d q sides e = ap (λ (z : Eqn). tree_of z.left.now) e ∙ start_is d q
+
+pub right_is : (d : Dir) (q sides : Eqn) (binds : List Binding) (t : Tree) → sides ≡ directed d q → t ≡ substituted (subst_of binds) (tree_of sides.right.now)
+    → t ≡ substituted (subst_of binds) (end_side d (equation_of q))
+right_is d q sides binds t e is = is ∙ ap (substituted (subst_of binds)) (ap (λ (z : Eqn). tree_of z.right.now) e ∙ end_is d q)
+
+pub right_held : (bank : Terms) (d : Dir) (q sides : Eqn) → sides ≡ directed d q → IsEqnOf bank q → IsOf bank sides.right.now
+right_held bank d q sides e h = subst (λ (z : Eqn). IsOf bank z.right.now) (sym e) (sides_held bank d q h).right
+
+-- the rule at a place
+pub rule_at : (rules : List Rule) (at : ℕ) (rule : Rule) → at < length rules → rule ≡ slice_index_or rules at rule → slice_get rules at ≡ Some rule
+rule_at rules at rule within is = slice_get-get_or rules at rule within ∙ ap Some (sym is)

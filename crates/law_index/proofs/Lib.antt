@@ -1,4 +1,4 @@
-pub mod Agreeing
+pub mod Weighing
 pub mod Applying
 pub mod Numbers
 pub mod Choosing

@@ -8,7 +8,7 @@ ghost use Rattle.law_bank.specs.Bindings.{AllBound, AreRising};
 ghost use Rattle.law_rewriting.specs.Roots.{AppliesNot};
 ghost use Rattle.law_term.specs.Equations.{equation_of};
 ghost use Rattle.law_match.specs.Directed.{IsEqnOf};
-ghost use Rattle.law_index.specs.Index.{IsBankOf, AppliesBy};
+ghost use Rattle.law_index.specs.Index.{IsSignatureOf, AppliesBy};
 ghost use Rattle.law_index.specs.Sides.{HasVariables, AllRulesOf, FailsBy, HitsBy};
 
 use super::hit::Hit;
@@ -29,7 +29,7 @@ fn applied<'a>(
     requires variables { HasVariables rule.now }
     requires term { IsOf bank.old term.now }
     requires light { (out-Node term.now).weight ≤ 65536 }
-    ensures applies { IfOk result (λ o. (parts : SigParts) → IsBankOf parts bank.old (tree_of term.now) → MatchOption o (AppliesNot parts (equation_of rule.now.eqn) dir (tree_of term.now)) (AppliesBy parts (equation_of rule.now.eqn) dir (tree_of term.now))) }
+    ensures applies { IfOk result (λ o. (parts : SigParts) → IsSignatureOf parts bank.old → MatchOption o (AppliesNot parts (equation_of rule.now.eqn) dir (tree_of term.now)) (AppliesBy parts (equation_of rule.now.eqn) dir (tree_of term.now))) }
     ensures held { IfOk result (λ o. MatchOption o (Unit {0}) (λ s. AllBound bank.new s)) }
     ensures rising { IfOk result (λ o. MatchOption o (Unit {0}) (λ s. AreRising s)) }
     ensures grows { Grows bank.old bank.new }
@@ -57,7 +57,7 @@ pub fn tried<'a>(
     requires variables { Each HasVariables rules.now }
     requires term { IsOf bank.old term.now }
     requires light { (out-Node term.now).weight ≤ 65536 }
-    ensures hits { IfOk result (λ o. (parts : SigParts) → IsBankOf parts bank.old (tree_of term.now) → MatchOption o (FailsBy parts rules.now (tree_of term.now) side) (HitsBy parts rules.now (tree_of term.now) side)) }
+    ensures hits { IfOk result (λ o. (parts : SigParts) → IsSignatureOf parts bank.old → MatchOption o (FailsBy parts rules.now (tree_of term.now) side) (HitsBy parts rules.now (tree_of term.now) side)) }
     ensures held { IfOk result (λ o. MatchOption o (Unit {0}) (λ h. AllBound bank.new h.subst)) }
     ensures rising { IfOk result (λ o. MatchOption o (Unit {0}) (λ h. AreRising h.subst)) }
     ensures grows { Grows bank.old bank.new }

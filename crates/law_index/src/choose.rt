@@ -5,7 +5,7 @@ ghost use Rattle.law_bank.specs.declared.node.Node.{out-Node};
 ghost use Rattle.law_bank.specs.Terms.{tree_of};
 ghost use Rattle.law_bank.specs.Bank.{IsOf, Grows};
 ghost use Rattle.law_bank.specs.Bindings.{AllBound, AreRising};
-ghost use Rattle.law_index.specs.Index.{IsBankOf};
+ghost use Rattle.law_index.specs.Index.{IsSignatureOf};
 ghost use Rattle.law_index.specs.Sides.{HasVariables, AllRulesOf, SideBefore};
 ghost use Rattle.law_index.specs.Chosen.{IsFirst, IsPassed};
 
@@ -57,7 +57,7 @@ pub fn first_of<'a>(
     requires variables { Each HasVariables rules.now }
     requires term { IsOf bank.old term.now }
     requires light { (out-Node term.now).weight ≤ 65536 }
-    ensures first { IfOk result (λ o. (parts : SigParts) → IsBankOf parts bank.old (tree_of term.now) → IsFirst parts rules.now (tree_of term.now) sides.now o) }
+    ensures first { IfOk result (λ o. (parts : SigParts) → IsSignatureOf parts bank.old → IsFirst parts rules.now (tree_of term.now) sides.now o) }
     ensures held { IfOk result (λ o. MatchOption o (Unit {0}) (λ t. AllBound bank.new t.hit.subst)) }
     ensures rising { IfOk result (λ o. MatchOption o (Unit {0}) (λ t. AreRising t.hit.subst)) }
     ensures grows { Grows bank.old bank.new }

@@ -6,7 +6,7 @@ ghost use Rattle.law_bank.specs.Terms.{tree_of};
 ghost use Rattle.law_bank.specs.Bank.{IsOf, Grows};
 ghost use Rattle.law_bank.specs.Bindings.{AllBound, AreRising};
 ghost use Rattle.law_rewriting.specs.Roots.{HasNoRootStep};
-ghost use Rattle.law_index.specs.Index.{Entry, AllRules, rules_in, IsBankOf, IsHit};
+ghost use Rattle.law_index.specs.Index.{Entry, AllRules, rules_in, IsSignatureOf, IsHit};
 
 use super::choose::first_of;
 use super::hit::Hit;
@@ -77,7 +77,7 @@ impl<'a> RuleIndex<'a> {
         requires index { AllRules bank.old self.now }
         requires term { IsOf bank.old term.now }
         requires light { (out-Node term.now).weight ≤ 65536 }
-        ensures found { IfOk result (λ o. (parts : SigParts) → IsBankOf parts bank.old (tree_of term.now) → MatchOption o (HasNoRootStep parts (rules_in self.now) (tree_of term.now)) (IsHit parts (rules_in self.now) (tree_of term.now))) }
+        ensures found { IfOk result (λ o. (parts : SigParts) → IsSignatureOf parts bank.old → MatchOption o (HasNoRootStep parts (rules_in self.now) (tree_of term.now)) (IsHit parts (rules_in self.now) (tree_of term.now))) }
         ensures held { IfOk result (λ o. MatchOption o (Unit {0}) (λ h. AllBound bank.new h.subst)) }
         ensures rising { IfOk result (λ o. MatchOption o (Unit {0}) (λ h. AreRising h.subst)) }
         ensures grows { Grows bank.old bank.new }
