@@ -9,11 +9,16 @@ use Rattle.law_sig.specs.declared.chain.Dir.TheVariants as dir
 use Rattle.law_laws.proofs.ListFacts.{each_map, each_both}
 use Rattle.law_rewriting.specs.Steps.{Forward}
 use Rattle.law_rewriting.proofs.Places.{numbers_decided}
+use Rattle.law_bank.specs.Bank.{Terms, Grows}
+use Rattle.law_bank.specs.Bindings.{AllBound}
+use Rattle.law_bank.proofs.BankFacts.{stays}
+use Rattle.law_match.specs.Directed.{IsEqnOf}
+use Rattle.law_match.proofs.Binding.{bound_stay}
 use Rattle.law_index.specs.declared.hit.Hit.{Hit}
 use Rattle.law_index.specs.declared.side.Rule.{Rule}
 use Rattle.law_index.specs.declared.side.Side.{Side}
 use Rattle.law_index.specs.declared.choose.Taken.{Taken}
-use Rattle.law_index.specs.Sides.{SideBefore, FailsBy, HitsBy}
+use Rattle.law_index.specs.Sides.{AllRulesOf, SideBefore, FailsBy, HitsBy}
 use Rattle.law_index.specs.Chosen.{IsTaken, IsFirst, IsPassed}
 
 -- the order of sides
@@ -106,3 +111,21 @@ module _ (parts : SigParts) (rules : List Rule) (t : Tree) (sides : List Side) (
 
 pub all_chosen : (parts : SigParts) (rules : List Rule) (t : Tree) (sides : List Side) (at : ℕ) → length sides ≤ at → (first : Option Taken) → IsFirst parts rules t (take at sides) first → IsFirst parts rules t sides first
 all_chosen parts rules t sides at over first w = subst (λ l. IsFirst parts rules t l first) (take_all at sides over) w
+
+-- a bank grows
+
+pub rules_stay : (old new : Terms) (rules : List Rule) → Grows old new → AllRulesOf old rules → AllRulesOf new rules
+rules_stay old new rules g h = each_map (λ (r : Rule). IsEqnOf old r.eqn) (λ (r : Rule). IsEqnOf new r.eqn)
+    (λ r e. record { left = stays old new r.eqn.left.now g e.left; right = stays old new r.eqn.right.now g e.right }) rules h
+
+pub taken_stays : (old new : Terms) (first : Option Taken) → Grows old new → MatchOption first (Unit {0}) (λ (t : Taken). AllBound old t.hit.subst) → MatchOption first (Unit {0}) (λ (t : Taken). AllBound new t.hit.subst)
+taken_stays old new None g h = tt
+taken_stays old new (Some t) g h = bound_stay old new t.hit.subst g h
+
+-- what was tried
+module _ (parts : SigParts) (rules : List Rule) (t : Tree) (side : Side) (o : Option Hit) (m : MatchOption o (FailsBy parts rules t side) (HitsBy parts rules t side)) where
+  pub none_hits : o ≡ None → FailsBy parts rules t side
+  none_hits e = subst (λ z. MatchOption z (FailsBy parts rules t side) (HitsBy parts rules t side)) e m
+
+  pub some_hits : (h : Hit) → o ≡ Some h → HitsBy parts rules t side h
+  some_hits h e = subst (λ z. MatchOption z (FailsBy parts rules t side) (HitsBy parts rules t side)) e m

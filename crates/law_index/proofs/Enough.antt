@@ -1,5 +1,5 @@
 -- The sides that may match, rule by rule.
-use Rattle.std.proofs.Common.{◌≡◌, ◌<◌, ℕ, ◌+◌, ◌≤◌, ◌⊎◌, inl, inr, Bool, true, false, List, [], ◌∷◌, ◌++◌, length, map, Some, slice_get, slice_index_or, sym, refl, ap, ◌∙◌, subst, arith}
+use Rattle.std.proofs.Common.{◌≡◌, ◌<◌, ◌==◌, eq-eqb, true≢false, ℕ, ◌+◌, ◌≤◌, ◌⊎◌, inl, inr, Bool, true, false, List, [], ◌∷◌, ◌++◌, length, map, Some, slice_get, slice_index_or, sym, refl, ap, ◌∙◌, subst, arith}
 use Rattle.std.specs.Bool.{MatchBool}
 use Rattle.std.proofs.lemmas.Option.{slice_get-get_or, slice_get_within}
 use denote.Bor.{Bor}
@@ -32,6 +32,14 @@ other_symbol p t f g e d n σ q = n (ap (λ (z : SymId). z.0) (same_app f g (map
 pub no_symbol : (p t : Node) (f : SymId) (s : SortId) (i : ℕ) → (out-Node p).head ≡ head.Sym f → (out-Node t).head ≡ head.Var s i → (σ : Subst) → substituted σ (tree_of p) ≡ tree_of t → ⊥
 no_symbol p t f s i e d σ q = var_no_app s i f (map (substituted σ) (trees_of (out-Node p).args.now))
     (sym (var_tree t s i d) ∙ sym q ∙ ap (substituted σ) (sym_tree p f e) ∙ substituted-App σ f (trees_of (out-Node p).args.now))
+
+pub symbols_decide : (p t : Node) (f g : SymId) → (out-Node p).head ≡ head.Sym f → (out-Node t).head ≡ head.Sym g
+    → MatchBool (f.0 == g.0) (Unit {0}) ((σ : Subst) → substituted σ (tree_of p) ≡ tree_of t → ⊥)
+symbols_decide p t f g e d = by (f.0 == g.0) refl
+  where
+    by : (b : Bool) → (f.0 == g.0) ≡ b → MatchBool b (Unit {0}) ((σ : Subst) → substituted σ (tree_of p) ≡ tree_of t → ⊥)
+    by true q = tt
+    by false q = λ σ k. other_symbol p t f g e d (λ h. true≢false (sym (eq-eqb f.0 g.0 h) ∙ q)) σ k
 
 -- One side
 

@@ -1,6 +1,7 @@
 ghost use Rattle.std.specs.Prelude.{◌≡◌, IfOk, OnOk};
 ghost use Rattle.std.specs.Bool.{MatchBool};
-ghost use Rattle.law_sig.specs.Trees.{Subst, substituted};
+ghost use Rattle.law_sig.specs.Trees.{substituted};
+ghost use Rattle.law_sig.specs.Trees as trees;
 ghost use Rattle.law_bank.specs.Terms.{tree_of};
 ghost use Rattle.law_index.specs.Sides.{AreEnough, IsEnoughOf};
 
@@ -26,7 +27,7 @@ pub struct Side {
 
 /// Whether a pattern may match a term by what stands at their roots.
 fn may_match(pattern: Term<'_>, term: Term<'_>) -> bool
-    ensures { MatchBool result (Unit {0}) ((σ : Subst) → substituted σ (tree_of pattern.now) ≡ tree_of term.now → ⊥) }
+    ensures { MatchBool result (Unit {0}) ((σ : trees.Subst) → substituted σ (tree_of pattern.now) ≡ tree_of term.now → ⊥) }
 {
     match (pattern.head, term.head) {
         (Head::Var(_, _), _) => true,
