@@ -10,19 +10,20 @@ use Rattle.law_sig.specs.declared.parts.SigParts.{SigParts}
 use Rattle.law_sig.specs.declared.chain.Dir.{Dir}
 use Rattle.law_sig.specs.declared.chain.Step.{Step}
 use Rattle.law_laws.proofs.BodyFacts.{some_is}
-use Rattle.law_laws.proofs.ListFacts.{of_each, rising_both, each_all}
+use Rattle.law_laws.proofs.ListFacts.{of_each, each_both, rising_both, each_all}
 use Rattle.law_rewriting.specs.Steps.{Rules, Applies, Earlier, Reduces}
 use Rattle.law_rewriting.specs.Roots.{at_root, IsRootStep, HasNoRootStep, AppliesNot}
 use Rattle.law_rewriting.proofs.Places.{numbers_decided, at_root as root_source}
+use Rattle.law_bank.specs.Bank.{Terms}
 use Rattle.law_bank.specs.Bindings.{binds_of, subst_of}
 use Rattle.law_term.specs.declared.equation.EqId.{EqId}
 use Rattle.law_term.specs.Equations.{equation_of}
-use Rattle.law_index.specs.Index.{Entry, rules_in, IsHit}
+use Rattle.law_index.specs.Index.{Entry, AllRules, rules_in, IsHit}
 use Rattle.law_index.specs.declared.hit.Hit.{Hit}
 use Rattle.law_index.specs.declared.side.Rule.{Rule}
 use Rattle.law_index.specs.declared.side.Side.{Side}
 use Rattle.law_index.specs.declared.choose.Taken.{Taken}
-use Rattle.law_index.specs.Sides.{entry_of, entries_of, AreEnough, SideBefore, FailsBy, HitsBy}
+use Rattle.law_index.specs.Sides.{entry_of, entries_of, HasVariables, AllRulesOf, AreRules, AreEnough, SideBefore, FailsBy, HitsBy}
 use Rattle.law_index.specs.Chosen.{IsTaken, IsFirst}
 use Rattle.law_index.proofs.Applying.{start_is}
 
@@ -86,10 +87,10 @@ rules_more rules rule r h = rising_both Lower rules (rule ∷ []) r (tt, tt) (ea
 module _ (parts : SigParts) (rules : List Rule) (t : Tree) (sides : List Side) (rising : Rising Lower rules) (enough : AreEnough rules t sides) where
   -- a step at the root starts from one of the sides
   module _ (step : Step) (u : Tree) (h : Reduces parts (rules_in (entries_of rules)) step t u) (root : step.place ≡ []) where
-    found : Numbered rules step.number h.equation
+    pub found : Numbered rules step.number h.equation
     found = has_number rules step.number h.equation h.is_rule
 
-    pub own_side : Side
+    abbrev pub own_side : Side
     own_side = record { at = found.at; dir = step.dir }
 
     fails : AppliesNot parts (equation_of found.rule.eqn) step.dir t → ⊥
@@ -109,20 +110,20 @@ module _ (parts : SigParts) (rules : List Rule) (t : Tree) (sides : List Side) (
 
     -- what is earlier by its number is so by its place
     pub earlier_side : (side : Side) (rule : Rule) → slice_get rules side.at ≡ Some rule → Earlier step.number step.dir rule.eq.0 side.dir → SideBefore own_side side
-    earlier_side side rule there (inl less) = by (numbers_decided found.at side.at)
+    earlier_side side rule stands (inl less) = by (numbers_decided found.at side.at)
       where
         by : (found.at < side.at) ⊎ ((found.at ≡ side.at) ⊎ (side.at < found.at)) → SideBefore own_side side
         by (inl k) = inl k
         by (inr (inl k)) =
-            let same = some_is found.rule rule (sym found.there ∙ ap (slice_get rules) k ∙ there) in
+            let same = some_is found.rule rule (sym found.there ∙ ap (slice_get rules) k ∙ stands) in
             let e = found.number in let d = ap (λ (z : Rule). z.eq.0) same in absurd (omega (arith, less, e, d))
-        by (inr (inr k)) = let more = rise rules rising side.at found.at rule found.rule there found.there k in let e = found.number in absurd (omega (arith, less, more, e))
-    earlier_side side rule there (inr (e, forward)) = by (numbers_decided found.at side.at)
+        by (inr (inr k)) = let more = rise rules rising side.at found.at rule found.rule stands found.there k in let e = found.number in absurd (omega (arith, less, more, e))
+    earlier_side side rule stands (inr (e, forward)) = by (numbers_decided found.at side.at)
       where
         by : (found.at < side.at) ⊎ ((found.at ≡ side.at) ⊎ (side.at < found.at)) → SideBefore own_side side
         by (inl k) = inl k
         by (inr (inl k)) = inr (k, forward)
-        by (inr (inr k)) = let more = rise rules rising side.at found.at rule found.rule there found.there k in let d = found.number in absurd (omega (arith, e, more, d))
+        by (inr (inr k)) = let more = rise rules rising side.at found.at rule found.rule stands found.there k in let d = found.number in absurd (omega (arith, e, more, d))
 
   pub no_first : IsFirst parts rules t sides None → HasNoRootStep parts (rules_in (entries_of rules)) t
   no_first none step u h root = not_failing step u h root (of_each (FailsBy parts rules t) (in_sides step u h root) none)
@@ -144,3 +145,29 @@ module _ (parts : SigParts) (rules : List Rule) (t : Tree) (sides : List Side) (
               (earlier_side other v h root taken.side w.hits.rule w.hits.there earlier));
         });
   }
+
+-- what was chosen among the sides that were found
+module _ (parts : SigParts) (rules listed : List Rule) (same : listed ≡ rules) (t : Tree) (sides shown : List Side) (alike : shown ≡ sides) (rising : Rising Lower rules) (enough : AreEnough listed t sides)
+    (first : Option Taken) (is : IsFirst parts listed t shown first) (es : List Entry) (view : entries_of rules ≡ es) where
+  chosen : IsFirst parts rules t sides first
+  chosen = subst (λ (z : List Rule × List Side). IsFirst parts z.0 t z.1 first) (λ j. (same j, alike j)) is
+
+  enough_of : AreEnough rules t sides
+  enough_of = subst (λ l. AreEnough l t sides) same enough
+
+  pub none_found : first ≡ None → HasNoRootStep parts (rules_in es) t
+  none_found e = subst (λ l. HasNoRootStep parts (rules_in l) t) view (no_first parts rules t sides rising enough_of (subst (IsFirst parts rules t sides) e chosen))
+
+  pub some_found : (taken : Taken) → first ≡ Some taken → IsHit parts (rules_in es) t taken.hit
+  some_found taken e = subst (λ l. IsHit parts (rules_in l) t taken.hit) view (is_hit parts rules t sides rising enough_of taken (subst (IsFirst parts rules t sides) e chosen))
+
+-- the rules of an index, and one more
+pub entries_held : (bank : Terms) (rules : List Rule) → AllRules bank (entries_of rules) → AllRulesOf bank rules
+entries_held bank [] h = tt
+entries_held bank (rule ∷ rules) h = (h.0, entries_held bank rules h.1)
+
+pub are_rules_more : (rules new : List Rule) (rule : Rule) (es : List Entry) → new ≡ rules ++ rule ∷ [] → entries_of rules ≡ es → AreRules rules → Each (λ (e : Entry). e.0.0 < rule.eq.0) es → HasVariables rule → AreRules new
+are_rules_more rules new rule es e view w less own = subst AreRules (sym e) (record {
+  rising = rules_more rules rule w.rising (subst (Each (λ (e : Entry). e.0.0 < rule.eq.0)) (sym view) less);
+  variables = each_both HasVariables rules (rule ∷ []) w.variables (own, tt);
+})

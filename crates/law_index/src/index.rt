@@ -25,7 +25,7 @@ pub struct RuleIndex<'a> {
 }
 
 impl<'a> Model for RuleIndex<'a> {
-    ghost use Rattle.std.specs.Prelude.{List};
+    ghost use Rattle.std.specs.Prelude.{List, []};
     ghost use Rattle.std.specs.Coded.{codes};
     ghost use Rattle.law_bank.specs.contracts.node.Node as node;
     ghost use mir.Syntax.{named};
