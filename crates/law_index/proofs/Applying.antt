@@ -1,12 +1,10 @@
 -- An equation at the root of a term, by a match with its bindings filled.
-use Rattle.std.proofs.Common.{◌≡◌, ◌↔◌, ◌<◌, ◌≤◌, ◌^◌, ◌-◌, ℕ, ◌⊎◌, inl, inr, List, [], ◌∷◌, length, slice_get, slice_index_or, map, Option, Some, None, MatchOption, Less, sym, refl, ap, ◌∙◌, subst, arith}
+use Rattle.std.proofs.Common.{◌≡◌, ◌<◌, ℕ, ◌⊎◌, inl, inr, List, [], ◌∷◌, length, slice_get, slice_index_or, map, Option, Some, None, MatchOption, Less, sym, refl, ap, ◌∙◌, subst}
 use Rattle.std.proofs.lemmas.Option.{slice_get-get_or}
-use denote.Bor.{Bor}
 use Rattle.law_sig.specs.Lists.{In}
 use Rattle.law_sig.specs.Trees.{holes, substituted}
-use Rattle.law_sig.specs.Tests.{weight}
 use Rattle.law_sig.specs.Order.{compare_k}
-use Rattle.law_sig.specs.Chains.{bound_in, start_side, end_side}
+use Rattle.law_sig.specs.Chains.{start_side, end_side}
 use Rattle.law_sig.specs.declared.tree.SortId.{SortId}
 use Rattle.law_sig.specs.declared.tree.Tree.{Tree}
 use Rattle.law_sig.specs.declared.chain.Bind.{Bind}
@@ -18,7 +16,6 @@ use Rattle.law_rewriting.specs.Heads.{Sorts, sorts_in}
 use Rattle.law_rewriting.specs.Unifiers.{IsMatch, HasNoMatch}
 use Rattle.law_rewriting.specs.Roots.{IsFilling, AppliesNot}
 use Rattle.law_rewriting.proofs.Rooted.{match_applies, match_fails, no_match_fails}
-use Rattle.law_bank.specs.declared.node.Node.{Node, out-Node}
 use Rattle.law_bank.specs.Terms.{tree_of}
 use Rattle.law_bank.specs.Bank.{Terms, IsOf, Grows, sorts_by}
 use Rattle.law_bank.specs.Bindings.{Binding, binds_of, subst_of, AreRising}
@@ -31,7 +28,6 @@ use Rattle.law_match.specs.Visited.{AreVariables}
 use Rattle.law_match.specs.Filled.{Binds, AreFilled}
 use Rattle.law_index.specs.Index.{IsSignatureOf, AppliesBy}
 use Rattle.law_index.specs.declared.side.Rule.{Rule}
-use Rattle.law_index.specs.Sides.{HasVariables}
 
 -- Sides
 

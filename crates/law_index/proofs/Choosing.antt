@@ -1,5 +1,5 @@
 -- The first side, one after another.
-use Rattle.std.proofs.Common.{◌≡◌, ◌<◌, ℕ, ◌+◌, ◌≤◌, ◌⊎◌, inl, inr, List, [], ◌∷◌, ◌++◌, length, take, Option, Some, None, MatchOption, slice_get, slice_index_or, sym, refl, ap, ◌∙◌, subst, arith}
+use Rattle.std.proofs.Common.{◌≡◌, ◌<◌, ℕ, ◌+◌, ◌≤◌, ◌⊎◌, inl, inr, List, [], ◌∷◌, ◌++◌, length, take, Option, Some, None, MatchOption, slice_index_or, sym, ◌∙◌, subst, arith}
 use Rattle.std.proofs.lemmas.List.{take_more, take_all}
 use Rattle.law_sig.specs.Lists.{Each}
 use Rattle.law_sig.specs.declared.tree.Tree.{Tree}
@@ -19,7 +19,7 @@ use Rattle.law_index.specs.declared.side.Rule.{Rule}
 use Rattle.law_index.specs.declared.side.Side.{Side}
 use Rattle.law_index.specs.declared.choose.Taken.{Taken}
 use Rattle.law_index.specs.Sides.{AllRulesOf, SideBefore, FailsBy, HitsBy}
-use Rattle.law_index.specs.Chosen.{IsTaken, IsFirst, IsPassed}
+use Rattle.law_index.specs.Chosen.{IsFirst, IsPassed}
 
 -- the order of sides
 

@@ -1,5 +1,5 @@
 -- Rules by their numbers, and by their places.
-use Rattle.std.proofs.Common.{◌≡◌, ◌<◌, ◌==◌, eqb-true, eq-eqb, ℕ, zero, suc, ◌⊎◌, inl, inr, Bool, true, false, if◌then◌else◌, List, [], ◌∷◌, ◌++◌, map, Option, Some, None, slice_get, sym, refl, ap, ◌∙◌, subst, arith}
+use Rattle.std.proofs.Common.{◌≡◌, ◌<◌, ◌==◌, eqb-true, eq-eqb, ℕ, zero, suc, ◌⊎◌, inl, inr, Bool, true, false, if◌then◌else◌, List, [], ◌∷◌, ◌++◌, Option, Some, None, slice_get, sym, refl, ap, ◌∙◌, subst, arith}
 use Rattle.law_sig.specs.Lists.{In, Each, Rising}
 use Rattle.law_sig.specs.Lists.In.{here, there}
 use Rattle.law_sig.specs.Trees.{substituted}
@@ -10,8 +10,8 @@ use Rattle.law_sig.specs.declared.parts.SigParts.{SigParts}
 use Rattle.law_sig.specs.declared.chain.Dir.{Dir}
 use Rattle.law_sig.specs.declared.chain.Step.{Step}
 use Rattle.law_laws.proofs.BodyFacts.{some_is}
-use Rattle.law_laws.proofs.ListFacts.{of_each, each_both, rising_both, each_all}
-use Rattle.law_rewriting.specs.Steps.{Rules, Applies, Earlier, Reduces}
+use Rattle.law_laws.proofs.ListFacts.{of_each, each_both, rising_both}
+use Rattle.law_rewriting.specs.Steps.{Applies, Earlier, Reduces}
 use Rattle.law_rewriting.specs.Roots.{at_root, IsRootStep, HasNoRootStep, AppliesNot}
 use Rattle.law_rewriting.proofs.Places.{numbers_decided, at_root as root_source}
 use Rattle.law_bank.specs.Bank.{Terms}
@@ -19,12 +19,11 @@ use Rattle.law_bank.specs.Bindings.{binds_of, subst_of}
 use Rattle.law_term.specs.declared.equation.EqId.{EqId}
 use Rattle.law_term.specs.Equations.{equation_of}
 use Rattle.law_index.specs.Index.{Entry, AllRules, rules_in, IsHit}
-use Rattle.law_index.specs.declared.hit.Hit.{Hit}
 use Rattle.law_index.specs.declared.side.Rule.{Rule}
 use Rattle.law_index.specs.declared.side.Side.{Side}
 use Rattle.law_index.specs.declared.choose.Taken.{Taken}
-use Rattle.law_index.specs.Sides.{entry_of, entries_of, HasVariables, AllRulesOf, AreRules, AreEnough, SideBefore, FailsBy, HitsBy}
-use Rattle.law_index.specs.Chosen.{IsTaken, IsFirst}
+use Rattle.law_index.specs.Sides.{entries_of, HasVariables, AllRulesOf, AreRules, AreEnough, SideBefore, FailsBy}
+use Rattle.law_index.specs.Chosen.{IsFirst}
 use Rattle.law_index.proofs.Applying.{start_is}
 
 -- the rule with a number, and its place

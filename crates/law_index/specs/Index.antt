@@ -1,5 +1,5 @@
 -- What an index says: its equations by their numbers, and the step at the root of a term.
-use Rattle.std.specs.Prelude.{◌≡◌, ◌==◌, ℕ, List, [], ◌∷◌, map, Option, Some, None, if◌then◌else◌}
+use Rattle.std.specs.Prelude.{◌≡◌, ◌==◌, ℕ, List, [], ◌∷◌, map, Some, None, if◌then◌else◌}
 use Rattle.law_sig.specs.Lists.{Each}
 use Rattle.law_sig.specs.Trees.{substituted}
 use Rattle.law_sig.specs.Signature.{result_of}

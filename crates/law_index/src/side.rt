@@ -57,11 +57,7 @@ fn add_side<'a>(
 }
 
 /// All sides that may match a term.
-pub fn sides<'a>(
-    alloc: Global,
-    rules: &[Rule<'a>],
-    term: Term<'a>,
-) -> Result<Vec<Side>, NoMemory>
+pub fn sides<'a>(alloc: Global, rules: &[Rule<'a>], term: Term<'a>) -> Result<Vec<Side>, NoMemory>
     ensures { IfOk result (λ v. AreEnough rules.now (tree_of term.now) v.items) }
 {
     let mut found = Vec::new(alloc);

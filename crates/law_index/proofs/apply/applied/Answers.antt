@@ -31,8 +31,8 @@ returns-then-not-is_smaller-clause-applies c = λ parts b.
     let q = equation_of c.args.rule.now.eqn in
     let left = left_is c.args.dir c.args.rule.now.eqn c.directed-sides.result c.directed-sides.ensures in
     let m = subst (λ z. IsMatch (sorts_in parts) z (tree_of c.args.term.now) (binds_of c.in-Some.matched)) left
-        (matched_in parts c.args.bank.now t b (tree_of c.directed-sides.result.left.now) c.in-Some.matched
-        (some_matched (sorts_by c.args.bank.now.sorts) (tree_of c.directed-sides.result.left.now) t c.in_ok-matched.field-0 c.in_ok-matched.ensures.found c.in-Some.matched c.in-Some.is)) in
+    (matched_in parts c.args.bank.now t b (tree_of c.directed-sides.result.left.now) c.in-Some.matched
+    (some_matched (sorts_by c.args.bank.now.sorts) (tree_of c.directed-sides.result.left.now) t c.in_ok-matched.field-0 c.in_ok-matched.ensures.found c.in-Some.matched c.in-Some.is)) in
     let grows = grows_on c.args.bank.now c.filled.new.bank c.subst.new.self c.in_ok-binds.ensures.grows c.in_ok-reached.ensures.grows in
     let w = weights_on parts c.args.bank.now t b c.subst.new.self grows in
     not_smaller parts q c.args.dir t c.in-Some.matched c.in_ok-binds.binds c.args.rule.now.variables m c.in_ok-binds.ensures.filled
@@ -46,8 +46,8 @@ returns-clause-applies c = λ parts b.
     let q = equation_of c.args.rule.now.eqn in
     let left = left_is c.args.dir c.args.rule.now.eqn c.directed-sides.result c.directed-sides.ensures in
     let m = subst (λ z. IsMatch (sorts_in parts) z (tree_of c.args.term.now) (binds_of c.in-Some.matched)) left
-        (matched_in parts c.args.bank.now t b (tree_of c.directed-sides.result.left.now) c.in-Some.matched
-        (some_matched (sorts_by c.args.bank.now.sorts) (tree_of c.directed-sides.result.left.now) t c.in_ok-matched.field-0 c.in_ok-matched.ensures.found c.in-Some.matched c.in-Some.is)) in
+    (matched_in parts c.args.bank.now t b (tree_of c.directed-sides.result.left.now) c.in-Some.matched
+    (some_matched (sorts_by c.args.bank.now.sorts) (tree_of c.directed-sides.result.left.now) t c.in_ok-matched.field-0 c.in_ok-matched.ensures.found c.in-Some.matched c.in-Some.is)) in
     let grows = grows_on c.args.bank.now c.filled.new.bank c.subst.new.self c.in_ok-binds.ensures.grows c.in_ok-reached.ensures.grows in
     let w = weights_on parts c.args.bank.now t b c.subst.new.self grows in
     applies_by parts q c.args.dir t c.in-Some.matched c.in_ok-binds.binds c.args.rule.now.variables m c.in_ok-binds.ensures.filled
