@@ -1,5 +1,5 @@
 -- Rules by their numbers, and by their places.
-use Rattle.std.proofs.Common.{◌≡◌, ◌<◌, ◌==◌, eqb-true, eq-eqb, ℕ, zero, suc, ◌⊎◌, inl, inr, Bool, true, false, if◌then◌else◌, List, [], ◌∷◌, ◌++◌, Option, Some, None, slice_get, sym, refl, ap, ◌∙◌, subst, arith}
+use Rattle.std.proofs.Common.{◌≡◌, ◌<◌, ◌==◌, eqb-true, eq-eqb, ℕ, zero, suc, ◌⊎◌, inl, inr, Bool, true, false, if◌then◌else◌, List, [], ◌∷◌, ◌++◌, length, Option, Some, None, slice_get, sym, refl, ap, ◌∙◌, subst, arith}
 use Rattle.law_sig.specs.Lists.{In, Each, Rising}
 use Rattle.law_sig.specs.Lists.In.{here, there}
 use Rattle.law_sig.specs.Trees.{substituted}
@@ -8,12 +8,14 @@ use Rattle.law_sig.specs.declared.tree.Tree.{Tree}
 use Rattle.law_sig.specs.declared.parts.Equation.{Equation}
 use Rattle.law_sig.specs.declared.parts.SigParts.{SigParts}
 use Rattle.law_sig.specs.declared.chain.Dir.{Dir}
+use Rattle.law_sig.specs.declared.chain.Dir.TheVariants as dir
 use Rattle.law_sig.specs.declared.chain.Step.{Step}
 use Rattle.law_laws.proofs.BodyFacts.{some_is}
 use Rattle.law_laws.proofs.ListFacts.{of_each, each_both, rising_both}
 use Rattle.law_rewriting.specs.Steps.{Applies, Earlier, Reduces}
 use Rattle.law_rewriting.specs.Roots.{at_root, IsRootStep, HasNoRootStep, AppliesNot}
 use Rattle.law_rewriting.proofs.Places.{numbers_decided, at_root as root_source}
+use Rattle.law_bank.specs.Terms.{tree_of}
 use Rattle.law_bank.specs.Bank.{Terms}
 use Rattle.law_bank.specs.Bindings.{binds_of, subst_of}
 use Rattle.law_term.specs.declared.equation.EqId.{EqId}
@@ -22,8 +24,12 @@ use Rattle.law_index.specs.Index.{Entry, AllRules, rules_in, IsHit}
 use Rattle.law_index.specs.declared.side.Rule.{Rule}
 use Rattle.law_index.specs.declared.side.Side.{Side}
 use Rattle.law_index.specs.declared.choose.Taken.{Taken}
-use Rattle.law_index.specs.Sides.{entries_of, HasVariables, AllRulesOf, AreRules, AreEnough, SideBefore, FailsBy}
+use Rattle.law_index.specs.Sides.{entries_of, start_of, HasVariables, AllRulesOf, AreRules, AreEnough, SideBefore, FailsBy}
 use Rattle.law_index.specs.Chosen.{IsFirst}
+use Rattle.law_index.specs.declared.tree.SideTree.{SideTree}
+use Rattle.law_index.specs.Ways.{HoldsOn, Keeps, AreFound}
+use Rattle.law_index.specs.Held.{AreKept}
+use Rattle.law_index.proofs.Branching.{keeps_on, holds_on}
 use Rattle.law_index.proofs.Applying.{start_is}
 
 -- the rule with a number, and its place
@@ -170,3 +176,43 @@ are_rules_more rules new rule es e view w less own = subst AreRules (sym e) (rec
   rising = rules_more rules rule w.rising (subst (Each (λ (e : Entry). e.0.0 < rule.eq.0)) (sym view) less);
   variables = each_both HasVariables rules (rule ∷ []) w.variables (own, tt);
 })
+
+split_get : (rules : List Rule) (rule : Rule) (at : ℕ) (r : Rule) → slice_get (rules ++ rule ∷ []) at ≡ Some r → (slice_get rules at ≡ Some r) ⊎ ((at ≡ length rules) × (r ≡ rule))
+split_get [] rule zero r e = let same : rule ≡ r = cc in inr (refl, sym same)
+split_get [] rule (suc at) r e = cc
+split_get (x ∷ rules) rule zero r e = inl e
+split_get (x ∷ rules) rule (suc at) r e = by (split_get rules rule at r e)
+  where
+    by : (slice_get rules at ≡ Some r) ⊎ ((at ≡ length rules) × (r ≡ rule)) → (slice_get rules at ≡ Some r) ⊎ ((suc at ≡ suc (length rules)) × (r ≡ rule))
+    by (inl k) = inl k
+    by (inr p) = inr (ap suc p.0, p.1)
+
+-- The tree of the sides
+
+pub kept_on : (rules : List Rule) (old new : SideTree) → AreKept rules old → Keeps old new → AreKept rules new
+kept_on rules old new w h = record {
+  are_rules = w.are_rules;
+  sound = h.sound;
+  held = λ at r d there. holds_on old new h (start_of r d) (record { at = at; dir = d }) (w.held at r d there);
+}
+
+module _ (rules : List Rule) (old mid new : SideTree) (rule : Rule) (w : AreKept rules old) (h : Keeps old mid) (k : Keeps mid new) where
+  pub kept_more : (more : List Rule) (es : List Entry) → more ≡ rules ++ rule ∷ [] → entries_of rules ≡ es → Each (λ (e : Entry). e.0.0 < rule.eq.0) es → HasVariables rule
+      → HoldsOn mid (tree_of rule.eqn.left.now) (record { at = length rules; dir = dir.LeftToRight }) → HoldsOn new (tree_of rule.eqn.right.now) (record { at = length rules; dir = dir.RightToLeft })
+      → AreKept more new
+  kept_more more es e view less own left right = record {
+    are_rules = are_rules_more rules more rule es e view w.are_rules less own;
+    sound = k.sound;
+    held = λ at r d there. held at r d (split_get rules rule at r (subst (λ l. slice_get l at ≡ Some r) e there));
+  }
+    where
+      ends : (d : Dir) → HoldsOn new (start_of rule d) (record { at = length rules; dir = d })
+      ends dir.LeftToRight = holds_on mid new k (tree_of rule.eqn.left.now) (record { at = length rules; dir = dir.LeftToRight }) left
+      ends dir.RightToLeft = right
+
+      held : (at : ℕ) (r : Rule) (d : Dir) → (slice_get rules at ≡ Some r) ⊎ ((at ≡ length rules) × (r ≡ rule)) → HoldsOn new (start_of r d) (record { at = at; dir = d })
+      held at r d (inl stands) = holds_on old new (keeps_on old mid new h k) (start_of r d) (record { at = at; dir = d }) (w.held at r d stands)
+      held at r d (inr p) = subst (λ (z : ℕ × Rule). HoldsOn new (start_of z.1 d) (record { at = z.0; dir = d })) (λ j. (sym p.0 j, sym p.1 j)) (ends d)
+
+pub all_enough : (rules : List Rule) (tr : SideTree) (t : Tree) (sides : List Side) → AreKept rules tr → AreFound tr t sides → AreEnough rules t sides
+all_enough rules tr t sides w f at rule d stands σ e = f (start_of rule d) (record { at = at; dir = d }) σ e (w.held at rule d stands)

@@ -10,10 +10,11 @@ ghost use Rattle.law_index.specs.Index.{Entry, AllRules, rules_in, IsSignatureOf
 
 use super::choose::first_of;
 use super::hit::Hit;
-use super::side::{Rule, sides};
+use super::side::{Rule, Side};
+use super::tree::SideTree;
 use law_match::variables;
 use law_sig::NoMemory;
-use law_term::{EqId, Eqn, Term, TermBank};
+use law_term::{Dir, EqId, Eqn, Term, TermBank};
 use std::alloc::Global;
 use std::marker::Model;
 
@@ -22,6 +23,7 @@ use std::marker::Model;
 pub struct RuleIndex<'a> {
     alloc: Global,
     rules: Vec<Rule<'a>>,
+    tree: SideTree,
 }
 
 impl<'a> Model for RuleIndex<'a> {
@@ -35,11 +37,13 @@ impl<'a> Model for RuleIndex<'a> {
 
     ghost coded = { Prim.hlevel (codes, (node.the_row (record { mir = named 0; lft = [] })).coded) };
 
-    ghost use Rattle.law_index.specs.Sides.{entries_of, AreRules};
+    ghost use Rattle.law_index.specs.Sides.{entries_of};
+
+    ghost use Rattle.law_index.specs.Held.{AreKept};
 
     ghost view = { λ index. entries_of index.rules.items };
 
-    ghost invariant = { λ index. AreRules index.rules.items };
+    ghost invariant = { λ index. AreKept index.rules.items index.tree };
 }
 
 impl<'a> RuleIndex<'a> {
@@ -50,6 +54,7 @@ impl<'a> RuleIndex<'a> {
         RuleIndex {
             alloc,
             rules: Vec::new(alloc),
+            tree: SideTree::new(alloc),
         }
     }
 
@@ -60,6 +65,21 @@ impl<'a> RuleIndex<'a> {
         ensures err { OnErr result (self.new ≡ self.old) }
     {
         let variables = variables(self.alloc, eqn.left, eqn.right)?;
+        let at = self.rules.len();
+        self.tree.add(
+            eqn.left,
+            Side {
+                at,
+                dir: Dir::LeftToRight,
+            },
+        )?;
+        self.tree.add(
+            eqn.right,
+            Side {
+                at,
+                dir: Dir::RightToLeft,
+            },
+        )?;
         let Ok(()) = self.rules.push(Rule { eq, eqn, variables }) else {
             return Err(NoMemory);
         };
@@ -83,7 +103,7 @@ impl<'a> RuleIndex<'a> {
         ensures grows { Grows bank.old bank.new }
     {
         let rules = self.rules.as_slice();
-        let found = sides(self.alloc, rules, term)?;
+        let found = self.tree.sides(term)?;
         let first = first_of(bank, rules, found.as_slice(), term)?;
         match first {
             Some(taken) => Ok(Some(taken.hit)),

@@ -7,6 +7,7 @@ mod hit;
 mod index;
 mod side;
 mod smaller;
+mod tree;
 
 pub use hit::Hit;
 pub use index::RuleIndex;
