@@ -1,19 +1,18 @@
 -- After each public call, all that is known of the fields is known of the new ones.
-use Rattle.std.proofs.Common.{◌≡◌, ◌≢◌, ℕ, suc, ◌+◌, ◌<◌, ◌≤◌, true, false, List, [], ◌∷◌, ◌++◌, length, Bool, Option, Some, None, IsTrue, ltb-true, slice_get, refl, sym, ap, ap₂, ◌∙◌, subst, subst₂, arith}
+use Rattle.std.proofs.Common.{◌≡◌, ℕ, ◌<◌, ◌≤◌, true, false, List, [], ◌∷◌, ◌++◌, length, Option, Some, None, IsTrue, ltb-true, slice_get, refl, sym, ap, ap₂, ◌∙◌, subst, subst₂, arith}
 use Rattle.std.specs.Prelude.{Vec}
 use Rattle.std.proofs.lemmas.List.{length-map}
 use Rattle.std.specs.declared.alloc.Global.{Global}
 use denote.Bor.{Bor}
 use Rattle.law_sig.specs.Lists.{In, Each, Rising}
-use Rattle.law_sig.specs.Trees.{schema_of}
-use Rattle.law_sig.specs.Signature.{is_declared_sort, vars_at, result_of, sort_of}
+use Rattle.law_sig.specs.Signature.{is_declared_sort, result_of, sort_of}
 use Rattle.law_sig.specs.Tests.{weight}
 use Rattle.law_sig.specs.Order.{IsBefore}
-use Rattle.law_sig.specs.Expected.{IsAbove, IsFirstAbove, IsSpent}
+use Rattle.law_sig.specs.Expected.{IsAbove, IsFirstAbove}
 use Rattle.law_sig.specs.Schemas.{IsConsidered, IsInstance}
 use Rattle.law_sig.specs.declared.tree.SortId.{SortId}
 use Rattle.law_sig.specs.declared.tree.Tree.{Tree}
-use Rattle.law_sig.specs.declared.tree.Tree.TheVariants.{Var, App}
+use Rattle.law_sig.specs.declared.tree.Tree.TheVariants.{Var}
 use Rattle.law_sig.specs.declared.parts.SigParts.{SigParts}
 use Rattle.law_laws.proofs.BodyFacts.{some_is}
 use Rattle.law_laws.proofs.ListFacts.{in_none}
@@ -37,32 +36,18 @@ use Rattle.law_schema.specs.declared.schemas.Turn.{Turn}
 use Rattle.law_schema.specs.declared.schemas.Turn.TheVariants as turn
 use Rattle.law_schema.specs.declared.schemas.Schemas.TheInside.{Inside}
 use Rattle.law_schema.specs.Rules.{IsRule, AreRules}
-use Rattle.law_schema.specs.Course.{Course, given, tree_in, Gives, GivesOf, GivesInstance, IsAtHand, after_admit}
-use Rattle.law_schema.specs.Columns.{Columns, columns_of, bucket, trees_in, filed, HasPlace, AreFresh}
+use Rattle.law_schema.specs.Course.{Course, given, tree_in, GivesOf, GivesInstance, IsAtHand, after_admit}
+use Rattle.law_schema.specs.Columns.{Columns, columns_of, trees_in, filed, HasPlace, AreFresh}
 use Rattle.law_schema.specs.Spreads.{schema_terms, schema_trees, live_terms, live_trees}
-use Rattle.law_schema.specs.Places.{IsApplied, IsAt, IsStanding, IsStocked, AllFiled}
+use Rattle.law_schema.specs.Places.{IsAt, IsStanding, IsStocked, AllFiled}
 use Rattle.law_schema.specs.Blocks.{AreLinked, IsHoused, IsBlock, GivesNext, after_given}
-use Rattle.law_schema.specs.Inside.{course_in, IsReached, IsReachedAt, IsRight, AreUpto, IsOpen, IsTurn, IsSound, IsPlaced, IsHome, AreShaped, with_live}
+use Rattle.law_schema.specs.Inside.{course_in, IsReached, IsRight, AreUpto, IsOpen, IsTurn, IsSound, IsHome, AreShaped, with_live}
 use Rattle.law_schema.proofs.RuleFacts.{after_rule, declared_of}
-use Rattle.law_schema.proofs.ColumnFacts.{counts_are}
 use Rattle.law_schema.proofs.Seeking.{here_is}
 use Rattle.law_schema.proofs.Housing.{got_held}
 use Rattle.law_schema.proofs.Filing.{applied_kept, shaped_kept, linked_more, stocked_more}
 use Rattle.law_schema.proofs.Filling.{app_is, var_is, block_more, block_live, given_one}
-use Rattle.law_schema.proofs.Sounding.{reached_considered, next_right, kill_right, trees_more, spread_right, housed_of, next_upto, with_live_is, housing, same_schemas, lives_more, admit_right, admit_upto}
-
--- Another place, at which the same schema stands
-
-pub kept_sound : (s : Inside) → IsSound s → (p : Place) → IsStanding s.rules (columns_of s.columns.items) p (tree_in s.schema) → IsSound (record s { place = p })
-kept_sound s is p standing = record {
-  signature = is.signature;
-  rules_are = is.rules_are;
-  standing = standing;
-  linked = is.linked;
-  shaped = is.shaped;
-  right = is.right;
-  turn_is = is.turn_is;
-}
+use Rattle.law_schema.proofs.Sounding.{next_right, spread_right, housed_of, next_upto, with_live_is, housing, same_schemas, lives_more, admit_right, admit_upto}
 
 -- The next schema
 
@@ -79,19 +64,6 @@ next_sound s is p b at first = record {
   turn_is = (refl, b, refl);
 }
 
--- The schema that was given last is killed
-
-pub kill_sound : (s : Inside) → IsSound s → s.turn ≡ turn.Given → IsSound (record s { turn = turn.Settled })
-kill_sound s is given_last = record {
-  signature = is.signature;
-  rules_are = is.rules_are;
-  standing = is.standing;
-  linked = is.linked;
-  shaped = is.shaped;
-  right = λ parts are. kill_right parts s.spreads.items (columns_of s.columns.items) s.turn (tree_in s.schema) (is.right parts are);
-  turn_is = (subst (λ t. IsTurn t s.rules s.spreads.items s.schema s.term s.live s.block) given_last is.turn_is).0;
-}
-
 -- or spread
 
 pub is_given : (s : Inside) → IsSound s → s.turn ≡ turn.Given → (s.term ≡ None) × (b : Bor Node) × (s.schema ≡ Some b)
@@ -99,14 +71,6 @@ is_given s is given_last = subst (λ t. IsTurn t s.rules s.spreads.items s.schem
 
 pub stands_at : (s : Inside) → IsSound s → (b : Bor Node) → s.schema ≡ Some b → IsAt s.rules (columns_of s.columns.items) s.place (tree_of b.now)
 stands_at s is b e = subst (λ o. IsStanding s.rules (columns_of s.columns.items) s.place (tree_in o)) e is.standing
-
-pub placed : (s : Inside) → IsSound s → (b : Bor Node) → s.schema ≡ Some b → IsPlaced s.rules s.place
-placed s is b e = by s.place (stands_at s is b e)
-  where
-    by : (p : Place) → IsAt s.rules (columns_of s.columns.items) p (tree_of b.now) → IsPlaced s.rules p
-    by place.Start at = absurd at
-    by (place.Var sort) at = tt
-    by (place.App a) (stand, at) = (at.rule, at.rule_is)
 
 -- the sort and the weight of the schema are those of its place
 pub record IsAtHome (parts : SigParts) (c : Tree) (sort : SortId) (w : ℕ) : Type 0 where
@@ -260,11 +224,6 @@ housed s is spread_last parts are =
     let open' = is_open s is spread_last in
     housed_of parts s.spreads.items (columns_of s.columns.items) s.turn (tree_of open'.last.schema.now)
     (subst (λ o. IsRight parts s.spreads.items (columns_of s.columns.items) s.turn (tree_in o)) open'.schema_is (is.right parts are))
-
-pub gives_of : (s : Inside) (is : IsSound s) (spread_last : s.turn ≡ turn.Spread) (parts : SigParts) (r : Option (Bor Node))
-    → GivesNext parts s.spreads.items (tree_of (is_open s is spread_last).last.schema.now) (tree_in s.term) r
-    → Gives parts (IsInstance parts (live_trees s.spreads.items) (tree_of (is_open s is spread_last).last.schema.now)) (tree_in s.term) r
-gives_of s is spread_last parts r h = h
 
 -- another block, of which the same instance was given last
 pub stay_sound : (s : Inside) (is : IsSound s) (spread_last : s.turn ≡ turn.Spread) (block : Block)

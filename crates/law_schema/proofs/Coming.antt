@@ -1,5 +1,5 @@
 -- The next schema, as the code finds it.
-use Rattle.std.proofs.Common.{◌≡◌, List, [], ◌∷◌, Option, Some, None, false, sym, ap, subst}
+use Rattle.std.proofs.Common.{◌≡◌, List, Option, Some, None, false, sym, subst}
 use Rattle.std.specs.Prelude.{Vec}
 use Rattle.std.specs.declared.alloc.Global.{Global}
 use denote.Bor.{Bor}

@@ -1,5 +1,5 @@
 -- What the code makes of lists: one item changed at its place, and the term of a row.
-use Rattle.std.proofs.Common.{◌≡◌, ◌≢◌, ℕ, zero, suc, ◌+◌, ◌-◌, ◌<◌, ◌≤◌, ◌⊎◌, inl, inr, List, [], ◌∷◌, ◌++◌, length, map, set, Some, slice_get, slice_set, slice_index_or, refl, sym, ap, ap₂, ◌∙◌, subst, arith}
+use Rattle.std.proofs.Common.{◌≡◌, ℕ, zero, suc, ◌+◌, ◌-◌, ◌<◌, ◌⊎◌, inl, inr, List, [], ◌∷◌, ◌++◌, length, set, Some, slice_get, slice_set, slice_index_or, refl, sym, ap, ap₂, ◌∙◌, subst, arith}
 use Rattle.std.specs.Prelude.{Vec}
 use Rattle.std.specs.declared.alloc.Global.{Global}
 use Rattle.std.proofs.lemmas.List.{map-set, get_or-map, length-map, length_push, get_or_append_left, get_or_at, get_or_past}
@@ -9,7 +9,7 @@ use Rattle.law_sig.specs.declared.tree.SortId.{SortId}
 use Rattle.law_sig.specs.declared.tree.Tree.{Tree}
 use Rattle.law_sig.specs.declared.tree.Tree.TheVariants.{App}
 use Rattle.law_bank.specs.declared.node.Node.{Node}
-use Rattle.law_bank.specs.Terms.{tree_of, trees_of}
+use Rattle.law_bank.specs.Terms.{trees_of}
 use Rattle.law_bank.specs.Bank.{Terms, IsOf, AllOf}
 use Rattle.law_listing.specs.declared.pick.Pick.{Pick}
 use Rattle.law_listing.specs.Picks.{IsRow}

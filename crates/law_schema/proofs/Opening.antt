@@ -1,5 +1,5 @@
 -- The instances of a schema that is spread now.
-use Rattle.std.proofs.Common.{◌≡◌, ℕ, zero, suc, List, [], ◌∷◌, ◌++◌, Option, Some, None, slice_get, slice_index_or, refl, sym, ap, ap₂, ◌∙◌, subst, subst₂}
+use Rattle.std.proofs.Common.{◌≡◌, ℕ, zero, suc, List, [], ◌∷◌, ◌++◌, Some, None, slice_get, slice_index_or, refl, sym, ap, ap₂, ◌∙◌, subst}
 use denote.Bor.{Bor}
 use Rattle.law_sig.specs.declared.tree.SortId.{SortId}
 use Rattle.law_sig.specs.declared.tree.Tree.{Tree}

@@ -181,7 +181,8 @@ impl<'a> Schemas<'a> {
         let Ok(()) = self.spreads.push(Spread {
             schema,
             lives: Seq::new(self.alloc),
-        }) else {
+        })
+        else {
             unreachable!()
         };
         self.block = block;
@@ -199,10 +200,7 @@ impl<'a> Schemas<'a> {
 
     /// The next instance of the schema that was spread last, with arguments that are all live; `None` exactly at the end. After a refusal
     /// all is as before.
-    pub fn next_instance(
-        &mut self,
-        bank: &mut TermBank<'a>,
-    ) -> Result<Option<Term<'a>>, NoMemory>
+    pub fn next_instance(&mut self, bank: &mut TermBank<'a>) -> Result<Option<Term<'a>>, NoMemory>
         requires spread { self.old.turn ≡ Turn.Spread }
         requires held { AllOf bank.old self.old.lives }
         ensures next { IfOk result (λ r. (parts : SigParts) → AreRules parts self.old.rules → GivesInstance parts self.old r) }
@@ -211,12 +209,7 @@ impl<'a> Schemas<'a> {
         ensures held { IfOk result (λ r. MatchOption r (Unit {0}) (λ term. IsOf bank.new term.now)) }
         ensures grows { Grows bank.old bank.new }
     {
-        let found = next_in(
-            self.alloc,
-            bank,
-            self.spreads.as_slice(),
-            &mut self.block,
-        )?;
+        let found = next_in(self.alloc, bank, self.spreads.as_slice(), &mut self.block)?;
         let Some(term) = found else {
             return Ok(None);
         };
