@@ -1,5 +1,5 @@
 -- A tree of sides grows.
-use Rattle.std.proofs.Common.{◌≡◌, ◌==◌, eqb-true, eq-eqb, ◌<◌, ◌≤◌, ℕ, zero, suc, ◌+◌, Bool, true, false, if◌then◌else◌, List, [], ◌∷◌, ◌++◌, length, map, Option, Some, None, slice_get, append-nil, append_assoc, ap, sym, ◌∙◌, refl, subst, arith}
+use Rattle.std.proofs.Common.{◌≡◌, eqb-true, eq-eqb, ◌<◌, ◌≤◌, ℕ, suc, ◌+◌, Bool, true, false, if◌then◌else◌, List, [], ◌∷◌, ◌++◌, length, map, Some, None, slice_get, append-nil, append_assoc, ap, sym, ◌∙◌, refl, subst, arith}
 use Rattle.std.specs.Map.{lookup}
 use Rattle.std.proofs.lemmas.List.{map-append, length-append}
 use denote.Bor.{Bor}
@@ -76,50 +76,50 @@ get_last [] x = refl
 get_last (e ∷ es) x = get_last es x
 
 module _ (old new : SideTree) (x : Ending) (node : ℕ) (sound : IsSound old) (links : new.links.entries ≡ old.links.entries) (more : new.endings.items ≡ old.endings.items ++ x ∷ [])
-    where
-  more_long : length new.endings.items ≡ suc (length old.endings.items)
-  more_long = let e = ap length more ∙ length-append old.endings.items (x ∷ []) in omega (arith, e)
+  where
+    more_long : length new.endings.items ≡ suc (length old.endings.items)
+    more_long = let e = ap length more ∙ length-append old.endings.items (x ∷ []) in omega (arith, e)
 
-  kept_links : (n key child : ℕ) → child_of old n key ≡ Some child → child_of new n key ≡ Some child
-  kept_links n key child e = ap (lookup (same_number (code n key))) links ∙ e
+    kept_links : (n key child : ℕ) → child_of old n key ≡ Some child → child_of new n key ≡ Some child
+    kept_links n key child e = ap (lookup (same_number (code n key))) links ∙ e
 
-  -- the number of the new one isn't noted
-  pub unput : ((k : ℕ) → newest_at new k ≡ newest_at old k) → Keeps old new
-  unput same = record {
-    links = kept_links;
-    ends = λ k side c. subst (λ l. Chain l (newest_at new k) side) (sym more) (subst (λ n. Chain (old.endings.items ++ x ∷ []) n side) (sym (same k)) (chain_more old.endings.items x c));
-    sound = λ k. (let a = same k in let b = sound k in let c = more_long in omega (arith, a, b, c));
-  }
-
-  module _ (before : x.before ≡ newest_at old node)
-      (finds : (k : ℕ) → lookup (same_number k) new.newest.entries ≡ (if same_number node k then Some (length new.endings.items) else lookup (same_number k) old.newest.entries)) where
-    own_number : newest_at new node ≡ suc (length old.endings.items)
-    own_number = ap number_or_none (finds node ∙ ap (λ b. if b then Some (length new.endings.items) else lookup (same_number node) old.newest.entries) (eq-eqb node node refl)) ∙ more_long
-
-    pub put_ends : Ends new node x.side
-    put_ends = subst (λ n. Chain new.endings.items n x.side) (sym own_number) (subst (λ l. Chain l (suc (length old.endings.items)) x.side) (sym more)
-        (own (length old.endings.items) x (get_last old.endings.items x)))
-
-    by_number : (P : ℕ → ℕ → Type 0) (k : ℕ) → P node (suc (length old.endings.items)) → P k (newest_at old k) → P k (newest_at new k)
-    by_number P k here there = by (same_number node k) refl
-      where
-        number : (b : Bool) → same_number node k ≡ b → newest_at new k ≡ number_or_none (if b then Some (length new.endings.items) else lookup (same_number k) old.newest.entries)
-        number b q = ap number_or_none (finds k ∙ ap (λ c. if c then Some (length new.endings.items) else lookup (same_number k) old.newest.entries) q)
-
-        by : (b : Bool) → same_number node k ≡ b → P k (newest_at new k)
-        by true q = subst (P k) (sym (number true q ∙ more_long)) (subst (λ z. P z (suc (length old.endings.items))) (eqb-true node k q) here)
-        by false q = subst (P k) (sym (number false q)) there
-
-    pub put_keeps : Keeps old new
-    put_keeps = record {
+    -- the number of the new one isn't noted
+    pub unput : ((k : ℕ) → newest_at new k ≡ newest_at old k) → Keeps old new
+    unput same = record {
       links = kept_links;
-      ends = λ k side c. subst (λ l. Chain l (newest_at new k) side) (sym more)
-          (by_number (λ z n. Ends old z side → Chain (old.endings.items ++ x ∷ []) n side) k
-          (λ c. older (length old.endings.items) x side (get_last old.endings.items x) (let a = before in let b = sound node in omega (arith, a, b))
-          (subst (λ n. Chain (old.endings.items ++ x ∷ []) n side) (sym before) (chain_more old.endings.items x c)))
-          (λ c. chain_more old.endings.items x c) c);
-      sound = λ k. by_number (λ z n. n ≤ length new.endings.items) k (let c = more_long in omega (arith, c)) (let b = sound k in let c = more_long in omega (arith, b, c));
+      ends = λ k side c. subst (λ l. Chain l (newest_at new k) side) (sym more) (subst (λ n. Chain (old.endings.items ++ x ∷ []) n side) (sym (same k)) (chain_more old.endings.items x c));
+      sound = λ k. (let a = same k in let b = sound k in let c = more_long in omega (arith, a, b, c));
     }
+
+    module _ (before : x.before ≡ newest_at old node)
+        (finds : (k : ℕ) → lookup (same_number k) new.newest.entries ≡ (if same_number node k then Some (length new.endings.items) else lookup (same_number k) old.newest.entries)) where
+      own_number : newest_at new node ≡ suc (length old.endings.items)
+      own_number = ap number_or_none (finds node ∙ ap (λ b. if b then Some (length new.endings.items) else lookup (same_number node) old.newest.entries) (eq-eqb node node refl)) ∙ more_long
+
+      pub put_ends : Ends new node x.side
+      put_ends = subst (λ n. Chain new.endings.items n x.side) (sym own_number) (subst (λ l. Chain l (suc (length old.endings.items)) x.side) (sym more)
+          (own (length old.endings.items) x (get_last old.endings.items x)))
+
+      by_number : (P : ℕ → ℕ → Type 0) (k : ℕ) → P node (suc (length old.endings.items)) → P k (newest_at old k) → P k (newest_at new k)
+      by_number P k here there = by (same_number node k) refl
+        where
+          number : (b : Bool) → same_number node k ≡ b → newest_at new k ≡ number_or_none (if b then Some (length new.endings.items) else lookup (same_number k) old.newest.entries)
+          number b q = ap number_or_none (finds k ∙ ap (λ c. if c then Some (length new.endings.items) else lookup (same_number k) old.newest.entries) q)
+
+          by : (b : Bool) → same_number node k ≡ b → P k (newest_at new k)
+          by true q = subst (P k) (sym (number true q ∙ more_long)) (subst (λ z. P z (suc (length old.endings.items))) (eqb-true node k q) here)
+          by false q = subst (P k) (sym (number false q)) there
+
+      pub put_keeps : Keeps old new
+      put_keeps = record {
+        links = kept_links;
+        ends = λ k side c. subst (λ l. Chain l (newest_at new k) side) (sym more)
+            (by_number (λ z n. Ends old z side → Chain (old.endings.items ++ x ∷ []) n side) k
+            (λ c. older (length old.endings.items) x side (get_last old.endings.items x) (let a = before in let b = sound node in omega (arith, a, b))
+            (subst (λ n. Chain (old.endings.items ++ x ∷ []) n side) (sym before) (chain_more old.endings.items x c)))
+            (λ c. chain_more old.endings.items x c) c);
+        sound = λ k. by_number (λ z n. n ≤ length new.endings.items) k (let c = more_long in omega (arith, c)) (let b = sound k in let c = more_long in omega (arith, b, c));
+      }
 
 pub keeps_itself : (tree : SideTree) → IsSound tree → Keeps tree tree
 keeps_itself tree sound = record { links = λ n key child e. e; ends = λ n side c. c; sound = sound }

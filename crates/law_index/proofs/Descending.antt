@@ -1,13 +1,12 @@
 -- Going down a tree of sides with a term.
-use Rattle.std.proofs.Common.{◌≡◌, ◌<◌, ◌≤◌, ◌⊎◌, inl, inr, ℕ, zero, suc, ◌+◌, ◌-◌, ◌*◌, List, [], ◌∷◌, ◌++◌, length, map, Option, Some, None, slice_get, slice_index_or, Result, Ok, Err, OnOk, append-nil, append_assoc, ap, ap₂, sym, ◌∙◌, refl, subst, arith}
+use Rattle.std.proofs.Common.{◌≡◌, ◌<◌, ◌≤◌, ◌⊎◌, inl, inr, ℕ, zero, suc, ◌+◌, ◌-◌, List, [], ◌∷◌, ◌++◌, length, map, Some, slice_get, slice_index_or, Result, Ok, Err, OnOk, ap, ap₂, sym, ◌∙◌, refl, subst, arith}
 use Rattle.std.proofs.lemmas.List.{map-append}
 use Rattle.std.proofs.lemmas.Option.{slice_get-get_or}
 use denote.Bor.{Bor}
 use Rattle.law_sig.specs.Lists.{In, total}
 use Rattle.law_sig.specs.Lists.In.{here}
-use Rattle.law_sig.specs.Trees.{Subst, substituted, node_count}
+use Rattle.law_sig.specs.Trees.{Subst, substituted}
 use Rattle.law_sig.specs.declared.seq.NoMemory.{NoMemory}
-use Rattle.law_sig.specs.declared.tree.SortId.{SortId}
 use Rattle.law_sig.specs.declared.tree.SymId.{SymId}
 use Rattle.law_sig.specs.declared.tree.Tree.{Tree}
 use Rattle.law_sig.specs.declared.tree.Tree.TheVariants as tree
@@ -22,7 +21,7 @@ use Rattle.law_bank.proofs.BankFacts.{var_tree, sym_tree}
 use Rattle.law_index.specs.declared.side.Side.{Side}
 use Rattle.law_index.specs.declared.tree.Ending.{Ending}
 use Rattle.law_index.specs.declared.tree.SideTree.{SideTree}
-use Rattle.law_index.specs.Ways.{Walk, way, ways, opened_by, opened, child_of, newest_at, Chain, Ends, LeadsFrom, HoldsOn, IsAhead, Awaits, power, cost, cost_of, costs, IsNoted, IsPassedOn, IsDescended, IsMet, Goes, AreFound}
+use Rattle.law_index.specs.Ways.{Walk, way, ways, opened_by, opened, child_of, Chain, Ends, LeadsFrom, IsAhead, Awaits, power, cost, cost_of, costs, IsNoted, IsPassedOn, IsDescended, IsMet, Goes, AreFound}
 use Rattle.law_index.specs.Ways.Chain.{own, older}
 use Rattle.law_index.proofs.Branching.{way-Var, way-App, ways_append, nodes, nodes_append, count_node, trees_append, total_append}
 

@@ -38,7 +38,6 @@ impl<'a> Model for RuleIndex<'a> {
     ghost coded = { Prim.hlevel (codes, (node.the_row (record { mir = named 0; lft = [] })).coded) };
 
     ghost use Rattle.law_index.specs.Sides.{entries_of};
-
     ghost use Rattle.law_index.specs.Held.{AreKept};
 
     ghost view = { λ index. entries_of index.rules.items };

@@ -1,4 +1,4 @@
-use Rattle.std.proofs.Common.{◌≡◌, ap, sym, ◌∙◌, Some, subst}
+use Rattle.std.proofs.Common.{◌≡◌, sym, ◌∙◌, Some, subst}
 use Rattle.law_bank.specs.Terms.{tree_of}
 use Rattle.law_index.specs.Ways.{child_of}
 use Rattle.law_match.proofs.Items.{nothing_left}

@@ -1,5 +1,5 @@
-use Rattle.std.proofs.Common.{◌∷◌, [], subst}
-use Rattle.law_index.specs.Ways.{IsPassedOn, IsDescended, Goes}
+use Rattle.std.proofs.Common.{subst}
+use Rattle.law_index.specs.Ways.{IsPassedOn}
 use Rattle.law_index.proofs.Descending.{put_ok, goes}
 use Rattle.law_index.proofs.tree.SideTree.go.Goals as goal
 
