@@ -209,22 +209,37 @@ fn first_places(alloc: Global, depth: u32) -> Result<Pos, NoMemory> {
     Ok(place)
 }
 
+/// The id of a term with itself put at the place of first arguments, so deep.
+fn put_at<'a>(
+    bank: &mut TermBank<'a>,
+    term: Term<'a>,
+    depth: u32,
+) -> Result<Option<u64>, NoMemory>
+    requires { IsOf bank.old term.now }
+{
+    let place = first_places(bank.alloc(), depth)?;
+    match bank.replace_at(term, &place, term)? {
+        Some(made) => Ok(Some(made.id)),
+        None => Ok(None),
+    }
+}
+
+/// A wide tower, and the one below it on its right.
+fn leaning<'a>(bank: &mut TermBank<'a>, times: u32) -> Result<Term<'a>, NoMemory> {
+    let below = tower(bank, 1, Shape::Wide, times)?;
+    let term = twice(bank, below, below)?;
+    twice(bank, term, below)
+}
+
 /// The term put in the place of its own first argument.
-#[tactic(auto, using(law_bank::proofs::BankFacts::stays))]
 fn is_replaced_wide(alloc: Global, times: u32) -> Result<bool, NoMemory> {
     let arena = Bump::new(alloc);
     let mut bank = bank(alloc, &arena);
     let below = tower(&mut bank, 1, Shape::Wide, times)?;
-    let term = twice(&mut bank, below, below)?;
-    let place = first_places(alloc, 1)?;
-    let made = bank.replace_at(term, &place, term)?;
-    let below = tower(&mut bank, 1, Shape::Wide, times)?;
-    let term = twice(&mut bank, below, below)?;
-    let expected = twice(&mut bank, term, below)?;
-    match made {
-        Some(made) => Ok(made.id == expected.id),
-        None => Ok(false),
-    }
+    let term = more(&mut bank, below, Shape::Wide)?;
+    let made = put_at(&mut bank, term, 1)?;
+    let expected = leaning(&mut bank, times)?;
+    Ok(made == Some(expected.id))
 }
 
 /// The term put in the place of its own variable.
@@ -232,14 +247,10 @@ fn is_replaced_deep(alloc: Global, times: u32) -> Result<bool, NoMemory> {
     let arena = Bump::new(alloc);
     let mut bank = bank(alloc, &arena);
     let term = tower(&mut bank, 1, Shape::Deep, times)?;
-    let place = first_places(alloc, times)?;
-    let made = bank.replace_at(term, &place, term)?;
-    let once = tower(&mut bank, 1, Shape::Deep, times)?;
-    let expected = over(&mut bank, once, Shape::Deep, times)?;
-    match made {
-        Some(made) => Ok(made.id == expected.id),
-        None => Ok(false),
-    }
+    let made = put_at(&mut bank, term, times)?;
+    let below = tower(&mut bank, 1, Shape::Deep, times)?;
+    let expected = over(&mut bank, below, Shape::Deep, times)?;
+    Ok(made == Some(expected.id))
 }
 
 #[test]
