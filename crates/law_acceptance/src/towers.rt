@@ -50,11 +50,7 @@ fn once<'a>(bank: &mut TermBank<'a>, term: Term<'a>) -> Result<Term<'a>, NoMemor
 }
 
 /// A symbol over two terms.
-fn twice<'a>(
-    bank: &mut TermBank<'a>,
-    left: Term<'a>,
-    right: Term<'a>,
-) -> Result<Term<'a>, NoMemory>
+fn twice<'a>(bank: &mut TermBank<'a>, left: Term<'a>, right: Term<'a>) -> Result<Term<'a>, NoMemory>
     requires left { IsOf bank.old left.now }
     requires right { IsOf bank.old right.now }
     requires low_left { IsLow (tree_of left.now) }
@@ -210,11 +206,7 @@ fn first_places(alloc: Global, depth: u32) -> Result<Pos, NoMemory> {
 }
 
 /// The id of a term with itself put at the place of first arguments, so deep.
-fn put_at<'a>(
-    bank: &mut TermBank<'a>,
-    term: Term<'a>,
-    depth: u32,
-) -> Result<Option<u64>, NoMemory>
+fn put_at<'a>(bank: &mut TermBank<'a>, term: Term<'a>, depth: u32) -> Result<Option<u64>, NoMemory>
     requires { IsOf bank.old term.now }
 {
     let place = first_places(bank.alloc(), depth)?;
