@@ -1,4 +1,4 @@
-use Rattle.std.proofs.Common.{◌≡◌, [], ◌∷◌, rules}
+use Rattle.std.proofs.Common.{[], ◌∷◌, rules}
 use Rattle.law_acceptance.proofs.LowFacts.{applied_low}
 use Rattle.law_acceptance.proofs.towers.once.Goals as goal
 
