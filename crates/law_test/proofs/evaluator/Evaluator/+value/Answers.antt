@@ -1,11 +1,11 @@
-use Rattle.std.proofs.Common.{◌≡◌, ◌≤◌, ◌<◌, length, take, sym, ap, ◌∙◌, refl, rules, arith}
+use Rattle.std.proofs.Common.{◌≡◌, length, take, sym, ap, ◌∙◌, refl, rules, arith}
 use Rattle.std.proofs.lemmas.List.{length-set}
 use Rattle.law_sig.specs.declared.tree.Tree.TheVariants.{App}
 use Rattle.law_sig.specs.declared.tree.Tree.TheViews.{the_lemmas}
 use Rattle.law_ids.proofs.ResultFacts.{passed}
 use Rattle.law_testing.specs.Values.{IsValue}
 use Rattle.law_test.specs.Memo.{Gives}
-use Rattle.law_testing.proofs.Testing.{args_testable, value_missing, values_all, HasValues}
+use Rattle.law_testing.proofs.Testing.{args_testable, value_missing, values_all}
 use Rattle.law_test.proofs.Evaluating.{few_here, row_next, taken_long, if_ok, given_value, given_none}
 use Rattle.law_testing.proofs.EvaluatorFacts.{extends_on, ready_stays}
 use Rattle.law_test.proofs.evaluator.Evaluator.+value.Goals as goal
