@@ -26,8 +26,8 @@ use Rattle.law_explore.proofs.VectorFacts.{arg_values, vector_stays}
 
 -- Vectors
 
-pub extends_not : (a : List (Vec ℕ Global)) → AddsVectors a a
-extends_not a = ([], sym (append-nil a))
+pub adds_not : (a : List (Vec ℕ Global)) → AddsVectors a a
+adds_not a = ([], sym (append-nil a))
 
 pub none_distinct : AreDistinct []
 none_distinct a b v w v_is w_is same = cc

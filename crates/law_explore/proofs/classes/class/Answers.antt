@@ -1,7 +1,7 @@
 use Rattle.indexmap.specs.IndexMap.{get}
 use Rattle.law_testing.proofs.EvaluatorFacts.{extends_not}
 use Rattle.law_test.specs.Words.{same_items}
-use Rattle.law_explore.proofs.ClassFacts.{class_recalled, class_learned, remembers_after, remembers_stay, extends_not, arg_vectors_stay}
+use Rattle.law_explore.proofs.ClassFacts.{class_recalled, class_learned, remembers_after, remembers_stay, adds_not, arg_vectors_stay}
 use Rattle.law_explore.proofs.classes.class.Goals as goal
 
 pub returns-in_default-clause-made : goal.returns-in_default-clause-made
@@ -18,7 +18,7 @@ pub returns-in-Some-clause-extends : goal.returns-in-Some-clause-extends
 returns-in-Some-clause-extends c = extends_not c.args.evaluator.now
 
 pub returns-in-Some-clause-adds : goal.returns-in-Some-clause-adds
-returns-in-Some-clause-adds c = extends_not c.args.vectors.now.keys
+returns-in-Some-clause-adds c = adds_not c.args.vectors.now.keys
 
 pub returns-clause-made : goal.returns-clause-made
 returns-clause-made c =
