@@ -1,1 +1,2 @@
 mod CountingFacts
+mod LowFacts

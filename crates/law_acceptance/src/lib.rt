@@ -29,6 +29,8 @@ mod streams;
 #[cfg(test)]
 mod terms;
 #[cfg(test)]
+mod towers;
+#[cfg(test)]
 mod trees;
 #[cfg(test)]
 mod types;

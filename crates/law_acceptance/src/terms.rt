@@ -344,7 +344,7 @@ fn terms_at_places(rt: HostRuntime) {
     assert!(rt; standing_are(rt.alloc()));
 }
 
-/// A term with another one put for a variable of the second sort, and a third for one of the first.
+/// A term with another one put for a variable of sort `M`.
 #[tactic(auto, using(law_bank::proofs::BankFacts::stays))]
 fn put(
     alloc: Global,
@@ -389,6 +389,61 @@ fn put_are(alloc: Global) -> bool {
 #[test]
 fn terms_put_for_variables(rt: HostRuntime) {
     assert!(rt; put_are(rt.alloc()));
+}
+
+/// A term with two others put for two variables at once: `B.0` and the one that is named.
+#[tactic(auto, using(law_bank::proofs::BankFacts::stays))]
+fn put_both(
+    alloc: Global,
+    sig: &Sig,
+    tree: &Tree,
+    first: &Tree,
+    index: u32,
+    second: &Tree,
+) -> Result<Tree, NoMemory> {
+    let arena = Bump::new(alloc);
+    let mut bank = bank(alloc, &arena, sig)?;
+    let term = bank.from_tree(tree)?;
+    let first = bank.from_tree(first)?;
+    let second = bank.from_tree(second)?;
+    let mut map = Subst::new(alloc);
+    map.bind(B, 0, first)?;
+    map.bind(B, index, second)?;
+    let made = bank.subst(term, &map)?;
+    bank.to_tree(made)
+}
+
+const PUT_BOTH: &[(&str, &str, u32, &str, &str)] = &[
+    ("k B.0 B.1", "B.1", 1, "B.0", "k B.1 B.0"),
+    ("k B.0 B.1", "not B.1", 1, "F", "k (not B.1) F"),
+    ("k B.1 B.2", "F", 2, "B.1", "k B.1 B.1"),
+    // the variable that is bound twice stands for the later term
+    ("k B.0 B.1", "F", 0, "T", "k T B.1"),
+];
+
+fn put_both_are(alloc: Global) -> bool {
+    let Some(sig) = signature(alloc, SYMBOLS) else {
+        return false;
+    };
+    for (text, first, index, second, expected) in PUT_BOTH {
+        let (Some(tree), Some(first), Some(second)) = (
+            tree(alloc, &sig, text),
+            tree(alloc, &sig, first),
+            tree(alloc, &sig, second),
+        ) else {
+            return false;
+        };
+        let made = put_both(alloc, &sig, &tree, &first, *index, &second);
+        if !is_term(alloc, &sig, &made, expected) {
+            return false;
+        }
+    }
+    true
+}
+
+#[test]
+fn two_terms_put_at_once(rt: HostRuntime) {
+    assert!(rt; put_both_are(rt.alloc()));
 }
 
 /// `f M.0` with 3 added to its index.
