@@ -1,6 +1,7 @@
 -- After each public call, all that is known of the fields is known of the new ones.
-use Rattle.std.proofs.Common.{◌≡◌, ◌≢◌, ℕ, suc, ◌+◌, ◌<◌, ◌≤◌, true, false, List, [], ◌∷◌, ◌++◌, length, length-map, Bool, Option, Some, None, IsTrue, ltb-true, slice_get, refl, sym, ap, ◌∙◌, subst, subst₂, arith}
+use Rattle.std.proofs.Common.{◌≡◌, ◌≢◌, ℕ, suc, ◌+◌, ◌<◌, ◌≤◌, true, false, List, [], ◌∷◌, ◌++◌, length, Bool, Option, Some, None, IsTrue, ltb-true, slice_get, refl, sym, ap, ◌∙◌, subst, subst₂, arith}
 use Rattle.std.specs.Prelude.{Vec}
+use Rattle.std.proofs.lemmas.List.{length-map}
 use Rattle.std.specs.declared.alloc.Global.{Global}
 use denote.Bor.{Bor}
 use Rattle.law_sig.specs.Lists.{In, Each, Rising}
@@ -294,7 +295,7 @@ has_spread s is b e = by s.turn is.turn_is
   where
     by : (t : Turn) → IsTurn t s.rules s.spreads.items s.schema s.term s.live s.block → t ≡ turn.Spread
     by turn.Settled none = absurd (cc (sym e ∙ none))
-    by turn.Given (none, rest) = absurd (cc (sym e ∙ none))
+    by turn.Given (none, schema, schema_is) = absurd (cc (sym e ∙ none))
     by turn.Spread open' = refl
 
 pub admit_sound : (s : Inside) (is : IsSound s) (spread_last : s.turn ≡ turn.Spread) (b live : Bor Node) → s.term ≡ Some b → tree_of live.now ≡ tree_of b.now → s.live ≡ false

@@ -112,8 +112,8 @@ pub record IsFiled (columns : Columns) (e : Entry) : Type 0 where
 pub entries_filed : (P : Entry → Type 0) (columns : Columns) → ((e : Entry) → IsFiled columns e → P e) → (ss : List SortId) (row : List Pick) → Each P (entries_of columns ss row)
 entries_filed P columns all [] row = tt
 entries_filed P columns all (s ∷ ss) [] = tt
-entries_filed P columns all (s ∷ ss) (p ∷ row) = by (slice_get (bucket columns s p.weight) p.at) refl
+entries_filed P columns all (s ∷ ss) (p ∷ row) = by (slice_get (bucket columns s p.weight) p.at) refl (entries_filed P columns all ss row)
   where
-    by : (o : Option Entry) → slice_get (bucket columns s p.weight) p.at ≡ o → Each P (present o ++ entries_of columns ss row)
-    by None got = entries_filed P columns all ss row
-    by (Some e) got = (all e (record { sort = s; weight = p.weight; at = at_place e (bucket columns s p.weight) p.at got }), entries_filed P columns all ss row)
+    by : (o : Option Entry) → slice_get (bucket columns s p.weight) p.at ≡ o → Each P (entries_of columns ss row) → Each P (present o ++ entries_of columns ss row)
+    by None got rest = rest
+    by (Some e) got rest = (all e (record { sort = s; weight = p.weight; at = at_place e (bucket columns s p.weight) p.at got }), rest)

@@ -54,7 +54,7 @@ module _ (columns : Columns) (s : SortId) (w : ℕ) (e : Entry) (place : HasPlac
     own : t ≡ s → k ≡ w → bucket After t k ≡ bucket columns s w ++ e ∷ [] → Bucket t k
     other : (t ≡ s → k ≡ w → ⊥) → bucket After t k ≡ bucket columns t k → Bucket t k
 
-  id : ℕ → SortId
+  abbrev id : ℕ → SortId
   id n = record { 0 = n }
 
   column_is : slice_index_or After s.0 [] ≡ set (slice_index_or columns s.0 []) w (bucket columns s w ++ e ∷ [])

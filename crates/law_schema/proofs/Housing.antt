@@ -73,11 +73,13 @@ in_lives (y ∷ spreads) (suc n) x t e at =
 
 pub of_lives : (spreads : List Spread) (t : Tree) → In t (live_trees spreads) → (n : ℕ) × (x : Spread) × (slice_get spreads n ≡ Some x) × In t (trees_of x.lives)
 of_lives [] t at = in_none at
-of_lives (y ∷ spreads) t at = by (in_split (trees_of y.lives) (live_trees spreads) (subst (In t) (maps_append (λ (b : Bor Node). tree_of b.now) y.lives (live_terms spreads)) at))
+of_lives (y ∷ spreads) t at =
+    by (in_split (trees_of y.lives) (live_trees spreads) (subst (In t) (maps_append (λ (b : Bor Node). tree_of b.now) y.lives (live_terms spreads)) at)) (λ h. of_lives spreads t h)
   where
-    by : In t (trees_of y.lives) ⊎ In t (live_trees spreads) → (n : ℕ) × (x : Spread) × (slice_get (y ∷ spreads) n ≡ Some x) × In t (trees_of x.lives)
-    by (inl h) = (0, y, refl, h)
-    by (inr h) = let (n, x, e, x_in) = of_lives spreads t h in (suc n, x, e, x_in)
+    by : In t (trees_of y.lives) ⊎ In t (live_trees spreads) → (In t (live_trees spreads) → (n : ℕ) × (x : Spread) × (slice_get spreads n ≡ Some x) × In t (trees_of x.lives))
+        → (n : ℕ) × (x : Spread) × (slice_get (y ∷ spreads) n ≡ Some x) × In t (trees_of x.lives)
+    by (inl h) rest = (0, y, refl, h)
+    by (inr h) rest = let (n, x, e, x_in) = rest h in (suc n, x, e, x_in)
 
 pub house_got : (parts : SigParts) (spreads : List Spread) (n : ℕ) (x : Spread) → Each (IsHouse parts) spreads → slice_get spreads n ≡ Some x → IsHouse parts x
 house_got parts [] n x all e = none_is x e
@@ -172,11 +174,11 @@ lives_held bank (x ∷ spreads) (suc n) all = lives_held bank spreads n (held_ri
 pub row_held : (bank : Terms) (spreads : List Spread) (numbers : List ℕ) (row : List Pick) → AllOf bank (live_terms spreads) → AllOf bank (live_row spreads numbers row)
 row_held bank spreads [] row all = tt
 row_held bank spreads (n ∷ numbers) [] all = tt
-row_held bank spreads (n ∷ numbers) (p ∷ row) all = by (slice_get (lives_at spreads n) p.at) refl
+row_held bank spreads (n ∷ numbers) (p ∷ row) all = by (slice_get (lives_at spreads n) p.at) refl (row_held bank spreads numbers row all)
   where
-    by : (o : Option (Bor Node)) → slice_get (lives_at spreads n) p.at ≡ o → AllOf bank (present o ++ live_row spreads numbers row)
-    by None e = row_held bank spreads numbers row all
-    by (Some b) e = (got_held bank (lives_at spreads n) p.at b (lives_held bank spreads n all) e, row_held bank spreads numbers row all)
+    by : (o : Option (Bor Node)) → slice_get (lives_at spreads n) p.at ≡ o → AllOf bank (live_row spreads numbers row) → AllOf bank (present o ++ live_row spreads numbers row)
+    by None e rest = rest
+    by (Some b) e rest = (got_held bank (lives_at spreads n) p.at b (lives_held bank spreads n all) e, rest)
 
 -- With other schemas, or other live terms elsewhere
 

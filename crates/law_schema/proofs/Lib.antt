@@ -4,6 +4,7 @@ pub mod Seeking
 pub mod Filing
 pub mod Housing
 pub mod Items
+pub mod Walking
 pub mod Making
 pub mod Filling
 pub mod Sounding

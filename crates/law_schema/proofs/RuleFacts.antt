@@ -1,5 +1,5 @@
 -- The rules of explored symbols: one after another, and that nothing is passed over.
-use Rattle.std.proofs.Common.{◌≡◌, ℕ, zero, suc, ◌<◌, ◌≤◌, ◌⊎◌, inl, inr, true≢false, List, [], ◌∷◌, ◌++◌, length, drop, false, Some, option_map, slice_get, slice_index_or, refl, sym, ap, ◌∙◌, subst, arith}
+use Rattle.std.proofs.Common.{◌≡◌, ℕ, zero, suc, ◌+◌, ◌-◌, ◌<◌, ◌≤◌, ◌⊎◌, inl, inr, true≢false, Bool, List, [], ◌∷◌, ◌++◌, length, drop, true, false, Some, option_map, slice_get, slice_index_or, refl, sym, ap, ◌∙◌, subst, arith}
 use Rattle.std.proofs.Math.Nat.{eq-or-lt_of_le}
 use Rattle.std.proofs.lemmas.Bool.{cases_lt}
 use Rattle.law_sig.specs.Signature.{symbol_at, args_of, result_of}
@@ -17,24 +17,56 @@ use Rattle.law_listing.specs.Stages.{kind_in, number_in, FromStage, NoneUpTo, Is
 use Rattle.law_listing.proofs.Picking.{item_at}
 use Rattle.law_schema.specs.declared.rules.Rule.{Rule}
 use Rattle.law_schema.specs.declared.rules.Rules.{Rules}
-use Rattle.law_schema.specs.Rules.{IsRule, NoneBetween, AreBetween, AreRules, HasNone, IsFirstSort}
+use Rattle.law_schema.specs.Rules.{AreMarks, IsRule, NoneBetween, AreBetween, AreRules, HasNone, IsFirstSort}
 
 -- One number more
 
-pub none_more : (parts : SigParts) (from upto : ℕ) (rules : List Rule) → AreBetween parts from upto rules → ((f : SymId) → f.0 ≡ upto → is_explored parts f ≡ false) → AreBetween parts from (suc upto) rules
-none_more parts from upto [] none last f low high =
+none_upto : (parts : SigParts) (from upto : ℕ) → NoneBetween parts from upto → ((f : SymId) → f.0 ≡ upto → is_explored parts f ≡ false) → NoneBetween parts from (suc upto)
+none_upto parts from upto none last f low high =
     let small : f.0 ≤ upto = omega arith in
     by (eq-or-lt_of_le small)
   where
     by : (f.0 ≡ upto) ⊎ (f.0 < upto) → is_explored parts f ≡ false
     by (inl e) = last f e
     by (inr less) = none f low less
+
+none_more : (parts : SigParts) (from upto : ℕ) (rules : List Rule) → AreBetween parts from upto rules → ((f : SymId) → f.0 ≡ upto → is_explored parts f ≡ false) → AreBetween parts from (suc upto) rules
+none_more parts from upto [] none last = none_upto parts from upto none last
 none_more parts from upto (r ∷ rs) (is, low, high, none, rest) last = (is, low, omega arith, none, none_more parts (suc r.symbol.0) upto rs rest last)
 
-pub rule_more : (parts : SigParts) (from upto : ℕ) (rules : List Rule) (r : Rule) → AreBetween parts from upto rules → IsRule parts r → r.symbol.0 ≡ upto → from ≤ upto
+rule_more : (parts : SigParts) (from upto : ℕ) (rules : List Rule) (r : Rule) → AreBetween parts from upto rules → IsRule parts r → r.symbol.0 ≡ upto → from ≤ upto
     → AreBetween parts from (suc upto) (rules ++ r ∷ [])
 rule_more parts from upto [] r none is e small = (is, omega arith, omega arith, λ f low high. none f low (omega arith), λ f low high. absurd (omega arith))
 rule_more parts from upto (q ∷ rs) r (q_is, low, high, none, rest) is e small = (q_is, low, omega arith, none, rule_more parts (suc q.symbol.0) upto rs r rest is e (omega arith))
+
+-- as the code counts on
+pub unmarked_on : (parts : SigParts) (upto : ℕ) (rules : List Rule) (marks read : List Bool) (b : Bool) → AreBetween parts 0 upto rules → AreMarks parts marks → read ≡ marks
+    → b ≡ slice_index_or read upto false → b ≡ false → AreBetween parts 0 (upto + 1) rules
+unmarked_on parts upto rules marks read b h are e is no' =
+    let more : suc upto ≡ upto + 1 = omega arith in
+    subst (λ n. AreBetween parts 0 n rules) more
+    (none_more parts 0 upto rules h (λ f at. sym (are f) ∙ ap (λ k. slice_index_or marks k false) at ∙ ap (λ l. slice_index_or l upto false) (sym e) ∙ sym is ∙ no'))
+
+pub rule_on : (parts : SigParts) (upto : ℕ) (rules after : List Rule) (r : Rule) → AreBetween parts 0 upto rules → IsRule parts r → r.symbol ≡ record { 0 = upto } → after ≡ rules ++ r ∷ []
+    → AreBetween parts 0 (upto + 1) after
+rule_on parts upto rules after r h is at e =
+    let more : suc upto ≡ upto + 1 = omega arith in
+    subst (λ l. AreBetween parts 0 (upto + 1) l) (sym e) (subst (λ n. AreBetween parts 0 n (rules ++ r ∷ [])) more
+    (rule_more parts 0 upto rules r h is (ap (λ (z : SymId). z.0) at) (omega arith)))
+
+-- How many rules there are
+
+pub rules_short : (parts : SigParts) (n upto : ℕ) (rules : List Rule) → AreBetween parts n upto rules → length rules ≤ upto - n
+rules_short parts n upto [] h = omega arith
+rules_short parts n upto (q ∷ rs) h =
+    let low = h.1 in
+    let high = h.2 in
+    let rest = rules_short parts (suc q.symbol.0) upto rs h.4 in omega arith
+
+pub rules_got : (rules : List Rule) (at : ℕ) (r : Rule) → slice_get rules at ≡ Some r → at < length rules
+rules_got [] at r e = none_is r e
+rules_got (q ∷ rs) zero r e = omega arith
+rules_got (q ∷ rs) (suc at) r e = let h = rules_got rs at r e in omega arith
 
 -- One rule after another
 

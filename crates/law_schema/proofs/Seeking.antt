@@ -1,5 +1,5 @@
 -- Rows of picks for the arguments of a symbol stand for its considered applications: which of them comes first and next.
-use Rattle.std.proofs.Common.{◌≡◌, ℕ, suc, ◌+◌, ◌-◌, ◌<◌, ◌≤◌, ◌⊎◌, inl, inr, List, [], ◌∷◌, length, map, drop, Option, Some, None, slice_get, refl, sym, ap, ◌∙◌, subst, subst₂, arith}
+use Rattle.std.proofs.Common.{◌≡◌, ℕ, suc, ◌+◌, ◌-◌, ◌^◌, ◌<◌, ◌≤◌, min, ◌⊎◌, inl, inr, List, [], ◌∷◌, length, map, drop, Option, Some, None, slice_get, refl, sym, ap, ◌∙◌, subst, subst₂, arith}
 use Rattle.std.proofs.lemmas.Bool.{cases_lt}
 use Rattle.std.specs.Option.{MatchOption}
 use Rattle.law_sig.specs.Lists.{In, Each}
@@ -36,9 +36,9 @@ use Rattle.law_schema.specs.declared.places.Ahead.TheVariants as ahead
 use Rattle.law_schema.specs.Rules.{IsRule, AreBetween, AreRules, HasNone, IsFirstSort}
 use Rattle.law_schema.specs.Course.{given}
 use Rattle.law_schema.specs.Columns.{Columns, column_below, lists_below, counts_below}
-use Rattle.law_schema.specs.Walks.{IsWalk}
+use Rattle.law_schema.specs.Walks.{done_at, rows_done, IsWalk}
 use Rattle.law_schema.specs.Places.{IsStocked, NoRows, IsOver, IsStarted, IsApplied, IsAt, IsAhead, IsStanding, IsConsideredAt, IsFirstAhead, FirstRow, FirstApp, FirstPlace, GoesAhead}
-use Rattle.law_schema.proofs.RuleFacts.{after_rule, head_is, none_left, skip, declared_of, first_var_of, no_var_of}
+use Rattle.law_schema.proofs.RuleFacts.{rules_short, rules_got, after_rule, head_is, none_left, skip, declared_of, first_var_of, no_var_of}
 use Rattle.law_schema.proofs.ColumnFacts.{counts_are, columns_are}
 
 -- One symbol
@@ -265,3 +265,39 @@ module _ (parts : SigParts) (rules : Rules) (schemas : List Tree) (columns : Col
         by : (r : Option Place) → MatchOption r (b ≡ ahead.Spent) (λ q. b ≡ ahead.At q) → FirstApp parts rules columns schemas a.weight (suc at.rule.symbol.0) r → GoesAhead parts rules columns schemas (Some c) p b
         by None k found = subst (GoesAhead parts rules columns schemas (Some c) p) (sym k) (next_never parts Considered flat a.weight 1 at.rule.symbol.0 c here_of none found)
         by (Some q) k (t, t_is, first) = subst (GoesAhead parts rules columns schemas (Some c) p) (sym k) (t, t_is, next_later parts Considered flat a.weight 1 at.rule.symbol.0 c t here_of none first)
+
+  -- As the code counts on
+
+  pub start_ahead : (o : Option Tree) (r : Option Place) (p : Place) (b : Ahead) → IsStanding rules columns place.Start o → MatchOption r (b ≡ ahead.Spent) (λ q. b ≡ ahead.At q) → FirstPlace parts rules columns schemas 0 r
+      → GoesAhead parts rules columns schemas o p b
+  start_ahead None r p b standing k first = ahead_first r p b k first
+  start_ahead (Some c) r p b standing k first = absurd standing
+
+  pub var_ahead : (sort : SortId) (n : ℕ) (o : Option Tree) (r : Option Place) (p : Place) (b : Ahead) → IsStanding rules columns (place.Var sort) o → IsConsideredAt parts schemas o → n ≡ min (sort.0 + 1) (2 ^ 32 - 1)
+      → MatchOption r (b ≡ ahead.Spent) (λ q. b ≡ ahead.At q) → FirstPlace parts rules columns schemas n r → GoesAhead parts rules columns schemas o p b
+  var_ahead sort n None r p b standing considered count k first = absurd (cc standing)
+  var_ahead sort n (Some c) r p b standing considered count k first =
+      let declared = var_declared parts schemas stocked.flat sort c standing considered in
+      let bound = are.formed.sorts_range.1 in
+      let next : n ≡ suc sort.0 = omega arith in
+      ahead_var sort c r p b standing considered k (subst (λ m. FirstPlace parts rules columns schemas m r) next first)
+
+  pub app_beside : (a : Application) (next : Walk) (o : Option Tree) → IsStanding rules columns (place.App a) o → next.choices ≡ a.walk.choices → next.weight ≡ a.walk.weight → IsWalk next
+      → IsFirstAbove (Lex IsLower) (IsRow a.walk.choices a.walk.weight) (rows_done a.walk) next.next.items
+      → IsFirstAhead parts rules columns Considered (given o) (place.App (record { weight = a.weight; rule = a.rule; walk = next }))
+  app_beside a next None standing choices_are weight_is walk_is first = absurd (cc standing)
+  app_beside a next (Some c) (stand, at) choices_are weight_is walk_is first =
+      ahead_beside a c at next choices_are weight_is walk_is (subst (λ s. IsFirstAbove (Lex IsLower) (IsRow a.walk.choices a.walk.weight) (done_at s a.walk.row.items) next.next.items) stand first)
+
+  pub app_ahead : (a : Application) (n : ℕ) (o : Option Tree) (r : Option Place) (p : Place) (b : Ahead) → IsStanding rules columns (place.App a) o → n ≡ min (a.rule + 1) (2 ^ 64 - 1)
+      → IsSpent (Lex IsLower) (IsRow a.walk.choices a.walk.weight) (rows_done a.walk) → MatchOption r (b ≡ ahead.Spent) (λ q. b ≡ ahead.At q)
+      → ((m : ℕ) → 1 ≤ a.weight → a.weight ≤ parts.settings.size → AreBetween parts m (length parts.symbols) (drop n rules.symbols) → FirstApp parts rules columns schemas a.weight m r)
+      → GoesAhead parts rules columns schemas o p b
+  app_ahead a n None r p b standing count spent k found = absurd (cc standing)
+  app_ahead a n (Some c) r p b (stand, at) count spent k found =
+      let within = rules_got rules.symbols a.rule at.rule at.rule_is in
+      let short = rules_short parts 0 (length parts.symbols) rules.symbols are.symbols in
+      let bound = are.formed.symbols_range in
+      let next : n ≡ suc a.rule = omega arith in
+      ahead_on a c at r p b k (subst (λ s. IsSpent (Lex IsLower) (IsRow a.walk.choices a.walk.weight) (done_at s a.walk.row.items)) stand spent)
+      (found (suc at.rule.symbol.0) (weighs a c at) (size a c at) (subst (λ m. AreBetween parts (suc at.rule.symbol.0) (length parts.symbols) (drop m rules.symbols)) (sym next) (after_is a c at)))
