@@ -1,7 +1,6 @@
 use Rattle.std.proofs.Common.{◌≡◌, length, take, subst, sym, ap, ◌∙◌, refl, arith}
 use Rattle.std.proofs.lemmas.List.{length-set}
 use Rattle.law_ids.specs.Values.{AreOf}
-use Rattle.law_ids.proofs.BankFacts.{take_all}
 use Rattle.law_testing.specs.Values.{applied_value}
 use Rattle.law_explore.specs.Values.{ids_at}
 use Rattle.law_explore.proofs.VectorFacts.{always_read, id_within, row_next, row_all, row_long, given_is_made}

@@ -1,4 +1,4 @@
-use Rattle.std.proofs.Common.{◌≡◌, None, IfOk, subst, sym, ◌∙◌}
+use Rattle.std.proofs.Common.{◌≡◌, None, IfOk, subst, ◌∙◌}
 use Rattle.law_sig.specs.declared.parts.SigParts.{SigParts}
 use Rattle.law_testing.specs.Values.{applied_value}
 use Rattle.law_explore.specs.Values.{IsMadeIn, ids_at}
