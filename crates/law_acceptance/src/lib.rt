@@ -21,6 +21,8 @@ mod run;
 #[cfg(test)]
 mod samples;
 #[cfg(test)]
+mod schemas;
+#[cfg(test)]
 mod signatures;
 #[cfg(test)]
 mod streams;
