@@ -1,12 +1,11 @@
 -- What a certificate that is played keeps ready.
-use Rattle.std.proofs.Common.{◌≡◌, ◌≢◌, List, [], ◌∷◌, ◌++◌, Option, Some, None, true, false, Result, Ok, Err, IfOk, sym, ap, ◌∙◌, subst}
+use Rattle.std.proofs.Common.{◌≡◌, List, [], ◌∷◌, ◌++◌, Option, Some, None, Result, Ok, Err, IfOk, sym, ap, ◌∙◌, subst}
 use Rattle.std.specs.Option.{MatchOption}
 use denote.Bor.{Bor}
 use Rattle.law_bank.specs.declared.node.Node.{Node}
 use Rattle.law_bank.specs.Bank.{Terms, IsOf, AllOf, Grows}
 use Rattle.law_bank.proofs.BankFacts.{all_stay}
-use Rattle.law_schema.specs.declared.schemas.Turn.TheVariants.{Settled, Given, Spread}
-use Rattle.law_schema.specs.Course.{Course, after_next, with_spread, after_spread, after_kill, after_instance, after_admit}
+use Rattle.law_schema.specs.Course.{Course, after_next, after_spread, after_kill, after_instance, after_admit}
 use Rattle.law_acceptance.specs.Playing.{IsReady}
 
 pub if_any : {T E : Type 0} (P : Type 0) (r : Result T E) → P → IfOk r (λ x. P)
