@@ -94,16 +94,16 @@ fn is_next<'a>(
     sig: &Sig,
     bank: &mut TermBank<'a>,
     schemas: &mut Schemas<'a>,
-    open: bool,
+    going: bool,
     entry: &Entry,
 ) -> Result<Option<bool>, NoMemory>
     requires ready { IsReady bank.old schemas.old }
-    requires open { MayGo open schemas.old }
+    requires going { MayGo going schemas.old }
     ensures ready { IfOk result (λ _. IsReady bank.new schemas.new) }
-    ensures open { IfOk result (λ o. MatchOption o (Unit {0}) (λ open. MayGo open schemas.new)) }
+    ensures going { IfOk result (λ o. MatchOption o (Unit {0}) (λ going. MayGo going schemas.new)) }
 {
     match entry {
-        Entry::Law { .. } | Entry::Lemma { .. } => Ok(Some(open)),
+        Entry::Law { .. } | Entry::Lemma { .. } => Ok(Some(going)),
         Entry::Spread(term) => {
             let Some(schema) = schema_of(alloc, sig, bank, term)? else {
                 return Ok(None);
@@ -118,8 +118,8 @@ fn is_next<'a>(
             let next = is_next_schema(bank, schemas, &schema, false)?;
             Ok(if next { Some(false) } else { None })
         }
-        Entry::Live(term) => next_term(alloc, sig, bank, schemas, open, term, true),
-        Entry::Moved { term, .. } => next_term(alloc, sig, bank, schemas, open, term, false),
+        Entry::Live(term) => next_term(alloc, sig, bank, schemas, going, term, true),
+        Entry::Moved { term, .. } => next_term(alloc, sig, bank, schemas, going, term, false),
     }
 }
 
@@ -129,16 +129,16 @@ fn next_term<'a>(
     sig: &Sig,
     bank: &mut TermBank<'a>,
     schemas: &mut Schemas<'a>,
-    open: bool,
+    going: bool,
     raw: &RawTerm,
     live: bool,
 ) -> Result<Option<bool>, NoMemory>
     requires ready { IsReady bank.old schemas.old }
-    requires open { MayGo open schemas.old }
+    requires going { MayGo going schemas.old }
     ensures ready { IfOk result (λ _. IsReady bank.new schemas.new) }
-    ensures open { IfOk result (λ o. MatchOption o (Unit {0}) (λ open. MayGo open schemas.new)) }
+    ensures going { IfOk result (λ o. MatchOption o (Unit {0}) (λ going. MayGo going schemas.new)) }
 {
-    if !open {
+    if !going {
         return Ok(None);
     }
     let Some(term) = typed(alloc, sig, raw)? else {
@@ -152,12 +152,12 @@ fn next_term<'a>(
 fn is_end<'a>(
     bank: &mut TermBank<'a>,
     schemas: &mut Schemas<'a>,
-    open: bool,
+    going: bool,
 ) -> Result<bool, NoMemory>
     requires ready { IsReady bank.old schemas.old }
-    requires open { MayGo open schemas.old }
+    requires going { MayGo going schemas.old }
 {
-    if open && schemas.next_instance(bank)?.is_some() {
+    if going && schemas.next_instance(bank)?.is_some() {
         return Ok(false);
     }
     Ok(schemas.next(bank)?.is_none())
@@ -184,16 +184,21 @@ fn weights_of(alloc: Global, sig: &Sig) -> Result<Seq<u32>, NoMemory> {
 /// Whether these entries are the schemas and instances in the order in which they are given, to the end.
 fn is_course(alloc: Global, sig: &Sig, entries: &[Entry]) -> Result<bool, NoMemory> {
     let arena = Bump::new(alloc);
-    let mut bank = TermBank::new(alloc, &arena, sorts_of(alloc, sig)?, weights_of(alloc, sig)?);
+    let mut bank = TermBank::new(
+        alloc,
+        &arena,
+        sorts_of(alloc, sig)?,
+        weights_of(alloc, sig)?,
+    );
     let mut schemas = Schemas::new(alloc, sig)?;
-    let mut open = false;
+    let mut going = false;
     for entry in entries {
-        match is_next(alloc, sig, &mut bank, &mut schemas, open, entry)? {
-            Some(more) => open = more,
+        match is_next(alloc, sig, &mut bank, &mut schemas, going, entry)? {
+            Some(more) => going = more,
             None => return Ok(false),
         }
     }
-    is_end(&mut bank, &mut schemas, open)
+    is_end(&mut bank, &mut schemas, going)
 }
 
 /// Whether a certificate's entries are.

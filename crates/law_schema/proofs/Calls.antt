@@ -1,19 +1,18 @@
 -- After each public call, all that is known of the fields is known of the new ones.
-use Rattle.std.proofs.Common.{◌≡◌, ◌≢◌, ℕ, suc, ◌+◌, ◌<◌, ◌≤◌, true, false, List, [], ◌∷◌, ◌++◌, length, Bool, Option, Some, None, IsTrue, ltb-true, slice_get, refl, sym, ap, ◌∙◌, subst, subst₂, arith}
+use Rattle.std.proofs.Common.{◌≡◌, ℕ, ◌<◌, ◌≤◌, true, false, List, [], ◌∷◌, ◌++◌, length, Option, Some, None, IsTrue, ltb-true, slice_get, refl, sym, ap, ap₂, ◌∙◌, subst, subst₂, arith}
 use Rattle.std.specs.Prelude.{Vec}
 use Rattle.std.proofs.lemmas.List.{length-map}
 use Rattle.std.specs.declared.alloc.Global.{Global}
 use denote.Bor.{Bor}
 use Rattle.law_sig.specs.Lists.{In, Each, Rising}
-use Rattle.law_sig.specs.Trees.{schema_of}
-use Rattle.law_sig.specs.Signature.{is_declared_sort, vars_at, result_of, sort_of}
+use Rattle.law_sig.specs.Signature.{is_declared_sort, result_of, sort_of}
 use Rattle.law_sig.specs.Tests.{weight}
 use Rattle.law_sig.specs.Order.{IsBefore}
-use Rattle.law_sig.specs.Expected.{IsAbove, IsFirstAbove, IsSpent}
+use Rattle.law_sig.specs.Expected.{IsAbove, IsFirstAbove}
 use Rattle.law_sig.specs.Schemas.{IsConsidered, IsInstance}
 use Rattle.law_sig.specs.declared.tree.SortId.{SortId}
 use Rattle.law_sig.specs.declared.tree.Tree.{Tree}
-use Rattle.law_sig.specs.declared.tree.Tree.TheVariants.{Var, App}
+use Rattle.law_sig.specs.declared.tree.Tree.TheVariants.{Var}
 use Rattle.law_sig.specs.declared.parts.SigParts.{SigParts}
 use Rattle.law_laws.proofs.BodyFacts.{some_is}
 use Rattle.law_laws.proofs.ListFacts.{in_none}
@@ -37,32 +36,18 @@ use Rattle.law_schema.specs.declared.schemas.Turn.{Turn}
 use Rattle.law_schema.specs.declared.schemas.Turn.TheVariants as turn
 use Rattle.law_schema.specs.declared.schemas.Schemas.TheInside.{Inside}
 use Rattle.law_schema.specs.Rules.{IsRule, AreRules}
-use Rattle.law_schema.specs.Course.{given, tree_in, Gives, GivesOf, IsAtHand}
-use Rattle.law_schema.specs.Columns.{Columns, columns_of, bucket, trees_in, filed, HasPlace, AreFresh}
+use Rattle.law_schema.specs.Course.{Course, given, tree_in, GivesOf, GivesInstance, IsAtHand, after_admit}
+use Rattle.law_schema.specs.Columns.{Columns, columns_of, trees_in, filed, HasPlace, AreFresh}
 use Rattle.law_schema.specs.Spreads.{schema_terms, schema_trees, live_terms, live_trees}
-use Rattle.law_schema.specs.Places.{IsApplied, IsAt, IsStanding, IsStocked, AllFiled}
+use Rattle.law_schema.specs.Places.{IsAt, IsStanding, IsStocked, AllFiled}
 use Rattle.law_schema.specs.Blocks.{AreLinked, IsHoused, IsBlock, GivesNext, after_given}
-use Rattle.law_schema.specs.Inside.{IsReached, IsReachedAt, IsRight, AreUpto, IsOpen, IsTurn, IsSound, IsPlaced, IsHome, AreShaped, with_live}
+use Rattle.law_schema.specs.Inside.{course_in, IsReached, IsRight, AreUpto, IsOpen, IsTurn, IsSound, IsHome, AreShaped, with_live}
 use Rattle.law_schema.proofs.RuleFacts.{after_rule, declared_of}
-use Rattle.law_schema.proofs.ColumnFacts.{counts_are}
 use Rattle.law_schema.proofs.Seeking.{here_is}
 use Rattle.law_schema.proofs.Housing.{got_held}
 use Rattle.law_schema.proofs.Filing.{applied_kept, shaped_kept, linked_more, stocked_more}
 use Rattle.law_schema.proofs.Filling.{app_is, var_is, block_more, block_live, given_one}
-use Rattle.law_schema.proofs.Sounding.{reached_considered, next_right, kill_right, trees_more, spread_right, housed_of, next_upto, with_live_is, housing, same_schemas, admit_right, admit_upto}
-
--- Another place, at which the same schema stands
-
-pub kept_sound : (s : Inside) → IsSound s → (p : Place) → IsStanding s.rules (columns_of s.columns.items) p (tree_in s.schema) → IsSound (record s { place = p })
-kept_sound s is p standing = record {
-  signature = is.signature;
-  rules_are = is.rules_are;
-  standing = standing;
-  linked = is.linked;
-  shaped = is.shaped;
-  right = is.right;
-  turn_is = is.turn_is;
-}
+use Rattle.law_schema.proofs.Sounding.{next_right, spread_right, housed_of, next_upto, with_live_is, housing, same_schemas, lives_more, admit_right, admit_upto}
 
 -- The next schema
 
@@ -79,19 +64,6 @@ next_sound s is p b at first = record {
   turn_is = (refl, b, refl);
 }
 
--- The schema that was given last is killed
-
-pub kill_sound : (s : Inside) → IsSound s → s.turn ≡ turn.Given → IsSound (record s { turn = turn.Settled })
-kill_sound s is given_last = record {
-  signature = is.signature;
-  rules_are = is.rules_are;
-  standing = is.standing;
-  linked = is.linked;
-  shaped = is.shaped;
-  right = λ parts are. kill_right parts s.spreads.items (columns_of s.columns.items) s.turn (tree_in s.schema) (is.right parts are);
-  turn_is = (subst (λ t. IsTurn t s.rules s.spreads.items s.schema s.term s.live s.block) given_last is.turn_is).0;
-}
-
 -- or spread
 
 pub is_given : (s : Inside) → IsSound s → s.turn ≡ turn.Given → (s.term ≡ None) × (b : Bor Node) × (s.schema ≡ Some b)
@@ -99,14 +71,6 @@ is_given s is given_last = subst (λ t. IsTurn t s.rules s.spreads.items s.schem
 
 pub stands_at : (s : Inside) → IsSound s → (b : Bor Node) → s.schema ≡ Some b → IsAt s.rules (columns_of s.columns.items) s.place (tree_of b.now)
 stands_at s is b e = subst (λ o. IsStanding s.rules (columns_of s.columns.items) s.place (tree_in o)) e is.standing
-
-pub placed : (s : Inside) → IsSound s → (b : Bor Node) → s.schema ≡ Some b → IsPlaced s.rules s.place
-placed s is b e = by s.place (stands_at s is b e)
-  where
-    by : (p : Place) → IsAt s.rules (columns_of s.columns.items) p (tree_of b.now) → IsPlaced s.rules p
-    by place.Start at = absurd at
-    by (place.Var sort) at = tt
-    by (place.App a) (stand, at) = (at.rule, at.rule_is)
 
 -- the sort and the weight of the schema are those of its place
 pub record IsAtHome (parts : SigParts) (c : Tree) (sort : SortId) (w : ℕ) : Type 0 where
@@ -181,6 +145,12 @@ has_place s is b sort w e home =
     let column = is.shaped.places sort declared in
     record { sort = omega arith; weight = omega arith }
 
+abbrev spread_of : Bor Node → List (Bor Node) → Spread
+spread_of b lives = record { schema = b; lives = lives }
+
+abbrev entry_of : Bor Node → ℕ → Entry
+entry_of b number = record { schema = b; number = number }
+
 pub spread_sound : (s : Inside) → IsSound s → s.turn ≡ turn.Given → (b : Bor Node) → s.schema ≡ Some b → (sort : SortId) (w : ℕ) → IsHome s.rules s.place sort w
     → (block : Block) → IsBlock s.rules s.spreads.items (tree_of b.now) None block
     → (spreads : Vec Spread Global) → spreads.items ≡ s.spreads.items ++ record { schema = b; lives = [] } ∷ []
@@ -231,6 +201,18 @@ spread_sound s is given_last b schema_is sort w home block block_is spreads spre
         (stocked_more (columns_of s.columns.items) sort w entry has parts (schema_trees s.spreads.items) r.stocked (sym (longer ∙ long))
         (considered_schema parts (schema_trees s.spreads.items) (tree_of b.now) r.stocked.flat r.reached.considered) h.weighs h.sorted (r.reached.fresh refl))
 
+-- as the code counts on
+pub spread_known : (s : Inside) → IsSound s → (v : Course) → course_in s ≡ v → v.turn ≡ turn.Given → (b : Bor Node) → s.schema ≡ Some b → (sort : SortId) (w : ℕ) → IsHome s.rules s.place sort w
+    → (block : Block) (columns_read : List (Vec (List Entry) Global)) (spreads_read : List Spread) → columns_read ≡ s.columns.items → spreads_read ≡ s.spreads.items
+    → ((t : Tree) → IsAt s.rules (columns_of columns_read) s.place t → AreLinked spreads_read (columns_of columns_read) → IsBlock s.rules spreads_read t None block)
+    → (number : ℕ) → number ≡ length s.spreads.items → (lives : List (Bor Node)) → lives ≡ [] → (spreads : Vec Spread Global) → spreads.items ≡ s.spreads.items ++ record { schema = b; lives = lives } ∷ []
+    → (columns : Vec (Vec (List Entry) Global) Global) → columns_of columns.items ≡ filed (columns_of s.columns.items) sort w (record { schema = b; number = number })
+    → IsSound (record s { spreads = spreads; columns = columns; block = block; turn = turn.Spread })
+spread_known s is v e given_last b schema_is sort w home block columns_read spreads_read columns_is spreads_is opens number number_is lives lives_are spreads spreads_are columns columns_are =
+    spread_sound s is (ap (λ (z : Course). z.turn) e ∙ given_last) b schema_is sort w home block
+    (subst₂ (λ l k. IsAt s.rules (columns_of l) s.place (tree_of b.now) → AreLinked k (columns_of l) → IsBlock s.rules k (tree_of b.now) None block) columns_is spreads_is (opens (tree_of b.now)) (stands_at s is b schema_is) is.linked)
+    spreads (spreads_are ∙ ap (λ l. s.spreads.items ++ spread_of b l ∷ []) lives_are) columns (columns_are ∙ ap (λ n. filed (columns_of s.columns.items) sort w (entry_of b n)) number_is)
+
 -- Instances
 
 pub is_open : (s : Inside) → IsSound s → s.turn ≡ turn.Spread → IsOpen s.rules s.spreads.items s.schema s.term s.live s.block
@@ -242,11 +224,6 @@ housed s is spread_last parts are =
     let open' = is_open s is spread_last in
     housed_of parts s.spreads.items (columns_of s.columns.items) s.turn (tree_of open'.last.schema.now)
     (subst (λ o. IsRight parts s.spreads.items (columns_of s.columns.items) s.turn (tree_in o)) open'.schema_is (is.right parts are))
-
-pub gives_of : (s : Inside) (is : IsSound s) (spread_last : s.turn ≡ turn.Spread) (parts : SigParts) (r : Option (Bor Node))
-    → GivesNext parts s.spreads.items (tree_of (is_open s is spread_last).last.schema.now) (tree_in s.term) r
-    → Gives parts (IsInstance parts (live_trees s.spreads.items) (tree_of (is_open s is spread_last).last.schema.now)) (tree_in s.term) r
-gives_of s is spread_last parts r h = h
 
 -- another block, of which the same instance was given last
 pub stay_sound : (s : Inside) (is : IsSound s) (spread_last : s.turn ≡ turn.Spread) (block : Block)
@@ -288,6 +265,65 @@ instance_sound s is spread_last block b block_is above = record {
     upto = λ parts are. next_upto parts (trees_of (is_open s is spread_last).last.lives) (tree_in s.term) s.live (tree_of b.now) (above parts are) ((is_open s is spread_last).upto parts are);
   });
 }
+
+-- as the code counts on
+abbrev pub KeepsBlock : List Spread → Block → Block → Type 0
+KeepsBlock read old new = (rules : Rules) (c : Tree) (o : Option Tree) → IsBlock rules read c o old → IsBlock rules read c o new
+
+abbrev pub GoesOn : List Spread → Block → Block → Option (Bor Node) → Type 0
+GoesOn read old new r = (rules : Rules) (c : Tree) (o : Option Tree) → IsBlock rules read c o old → IsBlock rules read c (after_given o r) new
+
+abbrev pub AllNext : List Spread → Block → Option (Bor Node) → Type 0
+AllNext read old r = (parts : SigParts) (rules : Rules) (c : Tree) (o : Option Tree) → AreRules parts rules → IsHoused parts read c → IsBlock rules read c o old → GivesNext parts read c o r
+
+pub spread_last : (s : Inside) (v : Course) → course_in s ≡ v → v.turn ≡ turn.Spread → s.turn ≡ turn.Spread
+spread_last s v e last = ap (λ (z : Course). z.turn) e ∙ last
+
+pub has_block : (s : Inside) → IsSound s → (v : Course) → course_in s ≡ v → v.turn ≡ turn.Spread → (read : List Spread) → read ≡ s.spreads.items
+    → (rules : Rules) × (c : Tree) × (o : Option Tree) × IsBlock rules read c o s.block
+has_block s is v e last read read_is =
+    let open' = is_open s is (spread_last s v e last) in
+    (s.rules, tree_of open'.last.schema.now, tree_in s.term, subst (λ l. IsBlock s.rules l (tree_of open'.last.schema.now) (tree_in s.term) s.block) (sym read_is) open'.block_is)
+
+pub stay_known : (s : Inside) → IsSound s → (v : Course) → course_in s ≡ v → v.turn ≡ turn.Spread → (read : List Spread) → read ≡ s.spreads.items → (block : Block) → KeepsBlock read s.block block
+    → IsSound (record s { block = block })
+stay_known s is v e last read read_is block keeps =
+    let l = spread_last s v e last in
+    let open' = is_open s is l in
+    let c = tree_of open'.last.schema.now in
+    stay_sound s is l block (subst (λ l. IsBlock s.rules l c (tree_in s.term) block) read_is
+    (keeps s.rules c (tree_in s.term) (subst (λ l. IsBlock s.rules l c (tree_in s.term) s.block) (sym read_is) open'.block_is)))
+
+pub none_kept : (read : List Spread) (old new : Block) (r : Option (Bor Node)) → r ≡ None → GoesOn read old new r → KeepsBlock read old new
+none_kept read old new r none on rules c o h = subst (λ z. IsBlock rules read c (after_given o z) new) none (on rules c o h)
+
+gives_here : (s : Inside) (is : IsSound s) (l : s.turn ≡ turn.Spread) (read : List Spread) → read ≡ s.spreads.items → (found : Option (Bor Node)) → AllNext read s.block found → (parts : SigParts) → AreRules parts s.rules
+    → GivesNext parts s.spreads.items (tree_of (is_open s is l).last.schema.now) (tree_in s.term) found
+gives_here s is l read read_is found next parts are =
+    let open' = is_open s is l in
+    let c = tree_of open'.last.schema.now in
+    subst (λ l. GivesNext parts l c (tree_in s.term) found) read_is
+    (next parts s.rules c (tree_in s.term) are (subst (λ l. IsHoused parts l c) (sym read_is) (housed s is l parts are)) (subst (λ l. IsBlock s.rules l c (tree_in s.term) s.block) (sym read_is) open'.block_is))
+
+pub gives_known : (s : Inside) → IsSound s → (v : Course) → course_in s ≡ v → v.turn ≡ turn.Spread → (read : List Spread) → read ≡ s.spreads.items → (found r : Option (Bor Node)) → found ≡ r → AllNext read s.block found
+    → (parts : SigParts) → AreRules parts v.rules → GivesInstance parts v r
+gives_known s is v e last read read_is found r r_is next =
+    let l = spread_last s v e last in
+    let open' = is_open s is l in
+    subst (λ (z : Course). (parts : SigParts) → AreRules parts z.rules → GivesInstance parts z r) e
+    (λ parts are. subst (λ o. GivesOf parts (course_in s) (tree_in o) r) (sym open'.schema_is)
+    (subst (GivesNext parts s.spreads.items (tree_of open'.last.schema.now) (tree_in s.term)) r_is (gives_here s is l read read_is found next parts are)))
+
+pub instance_known : (s : Inside) → IsSound s → (v : Course) → course_in s ≡ v → v.turn ≡ turn.Spread → (read : List Spread) → read ≡ s.spreads.items → (block : Block) (found : Option (Bor Node)) (b : Bor Node) → found ≡ Some b
+    → AllNext read s.block found → GoesOn read s.block block found → IsSound (record s { block = block; term = Some b; live = false })
+instance_known s is v e last read read_is block found b found_is next on =
+    let l = spread_last s v e last in
+    let open' = is_open s is l in
+    let c = tree_of open'.last.schema.now in
+    instance_sound s is l block b
+    (subst (λ l. IsBlock s.rules l c (Some (tree_of b.now)) block) read_is
+    (subst (λ z. IsBlock s.rules read c (after_given (tree_in s.term) z) block) found_is (on s.rules c (tree_in s.term) (subst (λ l. IsBlock s.rules l c (tree_in s.term) s.block) (sym read_is) open'.block_is))))
+    (λ parts are. (subst (GivesNext parts s.spreads.items c (tree_in s.term)) found_is (gives_here s is l read read_is found next parts are)).above)
 
 -- where an instance was given last, its schema was spread last
 pub has_spread : (s : Inside) → IsSound s → (b : Bor Node) → s.term ≡ Some b → s.turn ≡ turn.Spread
@@ -336,6 +372,38 @@ admit_sound s is spread_last b live term_is same fresh spreads spreads_are = rec
         let upto = subst (λ o. AreUpto parts (trees_of open'.last.lives) (tree_in o) s.live) term_is (open'.upto parts are) in
         admit_right parts open'.earlier open'.last live (columns_of s.columns.items) s.turn (tree_in s.schema) (subst (λ l. IsRight parts l (columns_of s.columns.items) s.turn (tree_in s.schema)) open'.spreads_are (is.right parts are))
         (subst₂ (λ l t. IsInstance parts (live_trees l) c t) open'.spreads_are (sym same) one) (subst (λ t. Each (λ z. IsBefore parts z t) (trees_of open'.last.lives)) (sym same) (upto.1 fresh))
+
+-- as the code counts on
+pub admit_known : (s : Inside) → IsSound s → (v : Course) → course_in s ≡ v → (live : Bor Node) → IsAtHand v.term live.now → v.live ≡ false
+    → (spreads : Vec Spread Global) → spreads.items ≡ with_live s.spreads.items live → IsSound (record s { spreads = spreads; live = true })
+admit_known s is v e live hand fresh spreads spreads_are = by s.term refl (subst (λ (z : Course). IsAtHand z.term live.now) (sym e) hand)
+  where
+    by : (o : Option (Bor Node)) → s.term ≡ o → IsAtHand o live.now → IsSound (record s { spreads = spreads; live = true })
+    by None k h = absurd h
+    by (Some b) k h = admit_sound s is (has_spread s is b k) b live k (sym h) (ap (λ (z : Course). z.live) e ∙ fresh) spreads spreads_are
+
+abbrev admitted : Course → List (Bor Node) → List (Bor Node) → Course
+admitted v schemas lives = record { rules = v.rules; spreads = schemas; lives = lives; schema = v.schema; turn = v.turn; term = v.term; live = true }
+
+pub admit_course : (s : Inside) → IsSound s → (v : Course) → course_in s ≡ v → (live : Bor Node) → IsAtHand v.term live.now
+    → (spreads : Vec Spread Global) → spreads.items ≡ with_live s.spreads.items live → course_in (record s { spreads = spreads; live = true }) ≡ after_admit v live
+admit_course s is v e live hand spreads spreads_are = by s.term refl (subst (λ (z : Course). IsAtHand z.term live.now) (sym e) hand)
+  where
+    by : (o : Option (Bor Node)) → s.term ≡ o → IsAtHand o live.now → course_in (record s { spreads = spreads; live = true }) ≡ after_admit v live
+    by None k h = absurd h
+    by (Some b) k h = subst (λ z. course_in (record s { spreads = spreads; live = true }) ≡ after_admit z live) e (ap₂ (admitted (course_in s)) schemas lives)
+      where
+        open' : IsOpen s.rules s.spreads.items s.schema s.term s.live s.block
+        open' = is_open s is (has_spread s is b k)
+
+        after : spreads.items ≡ open'.earlier ++ housing open'.last live ∷ []
+        after = spreads_are ∙ ap (λ l. with_live l live) open'.spreads_are ∙ with_live_is open'.earlier open'.last live
+
+        schemas : schema_terms spreads.items ≡ schema_terms s.spreads.items
+        schemas = ap schema_terms after ∙ same_schemas open'.earlier open'.last (housing open'.last live) refl ∙ ap schema_terms (sym open'.spreads_are)
+
+        lives : live_terms spreads.items ≡ live_terms s.spreads.items ++ live ∷ []
+        lives = ap live_terms after ∙ lives_more open'.earlier open'.last live ∙ ap (λ l. live_terms l ++ live ∷ []) (sym open'.spreads_are)
 
 -- At first
 

@@ -15,7 +15,7 @@ use Rattle.law_listing.specs.Choices.{counts_of, weighing, Picked}
 use Rattle.law_listing.specs.Columns.{IsBelow, AreColumns}
 use Rattle.law_listing.proofs.Rising.{map_in, at_place}
 use Rattle.law_schema.specs.declared.stock.Entry.{Entry}
-use Rattle.law_schema.specs.Columns.{Columns, bucket, trees_in, column_below, lists_below, sizes_below, counts_below, present, entries_of, schemas_in}
+use Rattle.law_schema.specs.Columns.{Columns, bucket, trees_in, column_below, lists_below, counts_below, present, entries_of, schemas_in}
 use Rattle.law_schema.specs.Places.{IsStocked}
 
 -- How many

@@ -1,5 +1,5 @@
 -- The instances of a schema, by the rows of live terms for its arguments, or by the variables of its sort.
-use Rattle.std.proofs.Common.{◌≡◌, ◌≢◌, ℕ, zero, suc, ◌+◌, ◌<◌, ◌≤◌, ◌⊎◌, inl, inr, List, [], ◌∷◌, ◌++◌, map, Option, Some, None, IsTrue, slice_index_or, refl, sym, ap, ◌∙◌, subst, subst₂, arith}
+use Rattle.std.proofs.Common.{◌≡◌, ◌≢◌, ℕ, zero, suc, ◌<◌, ◌≤◌, ◌⊎◌, inl, inr, List, [], ◌∷◌, ◌++◌, Option, Some, None, IsTrue, slice_index_or, refl, sym, ap, ◌∙◌, subst, subst₂, arith}
 use Rattle.std.specs.Prelude.{Vec}
 use Rattle.std.specs.declared.alloc.Global.{Global}
 use denote.Bor.{Bor}
@@ -21,11 +21,11 @@ use Rattle.law_laws.proofs.ListFacts.{each_of}
 use Rattle.law_laws.proofs.TreeFacts.{same_var, same_app, var_no_app}
 use Rattle.law_laws.proofs.Universe.{arg_weight}
 use Rattle.law_bank.specs.declared.node.Node.{Node}
-use Rattle.law_bank.specs.Terms.{tree_of, trees_of}
+use Rattle.law_bank.specs.Terms.{tree_of}
 use Rattle.law_listing.specs.declared.pick.Pick.{Pick}
 use Rattle.law_listing.specs.Rows.{Lex}
 use Rattle.law_listing.specs.Picks.{IsLower, IsRow}
-use Rattle.law_listing.specs.Choices.{counts_of, Picked, IsTermOf}
+use Rattle.law_listing.specs.Choices.{IsTermOf}
 use Rattle.law_listing.specs.Columns.{IsOpenOver}
 use Rattle.law_listing.proofs.Transfer.{StandFor, spent_first, spent_next, first_first, next_next}
 use Rattle.law_listing.proofs.Picking.{row_picks}
@@ -39,9 +39,9 @@ use Rattle.law_schema.specs.declared.block.Fillings.{Fillings}
 use Rattle.law_schema.specs.declared.block.Block.{Block}
 use Rattle.law_schema.specs.declared.block.Block.TheVariants as block
 use Rattle.law_schema.specs.Rules.{AreRules}
-use Rattle.law_schema.specs.Course.{given, Gives}
-use Rattle.law_schema.specs.Spreads.{schema_trees, live_trees, live_row, live_lists, live_counts, alone, AreNumbered}
-use Rattle.law_schema.specs.Walks.{done_at, IsReady, IsWalk}
+use Rattle.law_schema.specs.Course.{given}
+use Rattle.law_schema.specs.Spreads.{schema_trees, live_trees, live_lists, live_counts, alone, AreNumbered}
+use Rattle.law_schema.specs.Walks.{done_at, IsReady}
 use Rattle.law_schema.specs.Blocks.{IsHoused, IsLastVariable, AreVariables, IsLastAt, AreFillings, IsBlock, GivesNext, after_given, IsNextVariable, IsSameWalk, HasSameRow, IsNextRow, IsNextApplication}
 use Rattle.law_schema.proofs.Housing.{all_bounded, lists_are, live_counts_are, live_row_is, AreSameAt, same_lists, same_counts, same_numbered, same_front, same_but_last}
 

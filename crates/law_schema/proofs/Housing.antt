@@ -1,16 +1,14 @@
 -- Live terms by the number of their schema: which they are, and what stays so.
-use Rattle.std.proofs.Common.{◌≡◌, ◌≢◌, ℕ, zero, suc, ◌+◌, ◌<◌, ◌≤◌, ◌⊎◌, inl, inr, true, List, [], ◌∷◌, ◌++◌, length, map, Option, Some, None, slice_get, slice_index_or, refl, sym, ap, ap₂, ◌∙◌, subst, subst₂, arith}
-use Rattle.std.specs.List.{flat_map}
+use Rattle.std.proofs.Common.{◌≡◌, ◌≢◌, ℕ, zero, suc, ◌<◌, ◌⊎◌, inl, inr, true, List, [], ◌∷◌, ◌++◌, length, map, Option, Some, None, slice_get, slice_index_or, refl, sym, ap, ap₂, ◌∙◌, subst, arith}
 use denote.Bor.{Bor}
-use Rattle.law_sig.specs.Lists.{In, Each, Rising}
-use Rattle.law_sig.specs.Lists.In.{here, there}
+use Rattle.law_sig.specs.Lists.{In, Each}
 use Rattle.law_sig.specs.Trees.{schema_of}
 use Rattle.law_sig.specs.Tests.{is_bounded}
 use Rattle.law_sig.specs.Order.{IsBefore}
 use Rattle.law_sig.specs.declared.tree.Tree.{Tree}
 use Rattle.law_sig.specs.declared.parts.SigParts.{SigParts}
 use Rattle.law_laws.proofs.BodyFacts.{some_is, none_is}
-use Rattle.law_laws.proofs.ListFacts.{in_none, in_rest, in_left, in_right, in_split, each_of, of_each}
+use Rattle.law_laws.proofs.ListFacts.{in_none, in_left, in_right, in_split, of_each}
 use Rattle.law_bank.specs.declared.node.Node.{Node}
 use Rattle.law_bank.specs.Terms.{tree_of, trees_of}
 use Rattle.law_bank.specs.Bank.{Terms, IsOf, AllOf}
@@ -21,8 +19,8 @@ use Rattle.law_listing.proofs.Rising.{rising_weaken}
 use Rattle.law_listing.proofs.Staging.{before_same}
 use Rattle.law_schema.specs.declared.stock.Spread.{Spread}
 use Rattle.law_schema.specs.Columns.{present}
-use Rattle.law_schema.specs.Spreads.{schema_terms, schema_trees, live_terms, live_trees, lives_in, lives_at, live_row, live_lists, live_counts, alone, AreNumbered}
-use Rattle.law_schema.specs.Blocks.{IsHouse, IsHoused}
+use Rattle.law_schema.specs.Spreads.{schema_trees, live_terms, live_trees, lives_in, lives_at, live_row, live_lists, live_counts, alone, AreNumbered}
+use Rattle.law_schema.specs.Blocks.{IsHouse}
 
 -- Lists
 

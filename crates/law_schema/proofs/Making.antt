@@ -1,29 +1,32 @@
 -- What the code makes of lists: one item changed at its place, and the term of a row.
-use Rattle.std.proofs.Common.{◌≡◌, ◌≢◌, ℕ, zero, suc, ◌-◌, ◌<◌, List, [], ◌∷◌, ◌++◌, length, map, set, Some, slice_get, slice_set, slice_index_or, refl, sym, ap, ap₂, ◌∙◌, subst, arith}
+use Rattle.std.proofs.Common.{◌≡◌, ℕ, zero, suc, ◌+◌, ◌-◌, ◌<◌, ◌⊎◌, inl, inr, List, [], ◌∷◌, ◌++◌, length, set, Some, slice_get, slice_set, slice_index_or, refl, sym, ap, ap₂, ◌∙◌, subst, arith}
 use Rattle.std.specs.Prelude.{Vec}
 use Rattle.std.specs.declared.alloc.Global.{Global}
-use Rattle.std.proofs.lemmas.List.{map-set, get_or-map, length-map}
+use Rattle.std.proofs.lemmas.List.{map-set, get_or-map, length-map, length_push, get_or_append_left, get_or_at, get_or_past}
 use denote.Bor.{Bor}
 use Rattle.law_sig.specs.Lists.{Each}
 use Rattle.law_sig.specs.declared.tree.SortId.{SortId}
 use Rattle.law_sig.specs.declared.tree.Tree.{Tree}
 use Rattle.law_sig.specs.declared.tree.Tree.TheVariants.{App}
 use Rattle.law_bank.specs.declared.node.Node.{Node}
-use Rattle.law_bank.specs.Terms.{tree_of, trees_of}
+use Rattle.law_bank.specs.Terms.{trees_of}
 use Rattle.law_bank.specs.Bank.{Terms, IsOf, AllOf}
 use Rattle.law_listing.specs.declared.pick.Pick.{Pick}
 use Rattle.law_listing.specs.Picks.{IsRow}
+use Rattle.law_listing.proofs.PickFacts.{compared}
 use Rattle.law_schema.specs.declared.rules.Rule.{Rule}
 use Rattle.law_schema.specs.declared.rules.Rules.{Rules}
 use Rattle.law_schema.specs.declared.stock.Entry.{Entry}
 use Rattle.law_schema.specs.declared.stock.Spread.{Spread}
 use Rattle.law_schema.specs.declared.places.Application.{Application}
-use Rattle.law_schema.specs.Columns.{Columns, columns_of, entries_of, schemas_in, filed}
+use Rattle.law_schema.specs.Columns.{Columns, columns_of, bucket, AreFresh, AreBare, entries_of, schemas_in, filed}
 use Rattle.law_schema.specs.Spreads.{live_row}
 use Rattle.law_schema.specs.Places.{AllFiled, IsApplied}
 use Rattle.law_schema.specs.Inside.{with_live}
 use Rattle.law_schema.proofs.ColumnFacts.{entries_are, schemas_are, entries_filed}
+use Rattle.law_schema.proofs.Housing.{maps_append}
 use Rattle.law_schema.proofs.Items.{present}
+use Rattle.law_schema.proofs.Sounding.{with_live_is, housing}
 
 -- One entry more in its bucket
 
@@ -42,6 +45,38 @@ kept_is [] n v new read made = refl
 kept_is (x ∷ vecs) zero v new read made = ap (λ l. l ∷ columns_of vecs) (made ∙ ap (λ (z : Vec (List Entry) Global). z.items) read)
 kept_is (x ∷ vecs) (suc n) v new read made = ap (λ l. x.items ∷ l) (kept_is vecs n v new read made)
 
+-- One sort more
+
+pub fresh_more : (size n : ℕ) (vecs after : List (Vec (List Entry) Global)) (v : Vec (List Entry) Global) → AreFresh n size (columns_of vecs) → length v.items ≡ size + 1 → AreBare v.items → after ≡ vecs ++ v ∷ []
+    → AreFresh (n + 1) size (columns_of after)
+fresh_more size n vecs after v fresh long bare e = subst (AreFresh (n + 1) size) (sym (ap columns_of e ∙ joined)) (record {
+  long = length_push (columns_of vecs) v.items ∙ ap (λ k. k + 1) fresh.long;
+  places = λ s less. place s less (compared s.0 n);
+  empty = λ s k. empty s k (compared s.0 n);
+})
+  where
+    joined : columns_of (vecs ++ v ∷ []) ≡ columns_of vecs ++ v.items ∷ []
+    joined = maps_append (λ (x : Vec (List Entry) Global). x.items) vecs (v ∷ [])
+
+    old : (s : SortId) → s.0 < n → slice_index_or (columns_of vecs ++ v.items ∷ []) s.0 [] ≡ slice_index_or (columns_of vecs) s.0 []
+    old s less = get_or_append_left (columns_of vecs) (v.items ∷ []) [] s.0 (let h = fresh.long in omega arith)
+
+    own : (s : SortId) → s.0 ≡ n → slice_index_or (columns_of vecs ++ v.items ∷ []) s.0 [] ≡ v.items
+    own s e = get_or_at (columns_of vecs) v.items [] [] s.0 (fresh.long ∙ sym e)
+
+    past : (s : SortId) → n < s.0 → slice_index_or (columns_of vecs ++ v.items ∷ []) s.0 [] ≡ []
+    past s less = get_or_past (columns_of vecs ++ v.items ∷ []) s.0 [] (let h = fresh.long in let k = length_push (columns_of vecs) v.items in omega arith)
+
+    place : (s : SortId) → s.0 < n + 1 → (s.0 ≡ n) ⊎ ((s.0 < n) ⊎ (n < s.0)) → length (slice_index_or (columns_of vecs ++ v.items ∷ []) s.0 []) ≡ size + 1
+    place s less (inl h) = ap length (own s h) ∙ long
+    place s less (inr (inl h)) = ap length (old s h) ∙ fresh.places s h
+    place s less (inr (inr h)) = absurd (omega arith)
+
+    empty : (s : SortId) (k : ℕ) → (s.0 ≡ n) ⊎ ((s.0 < n) ⊎ (n < s.0)) → bucket (columns_of vecs ++ v.items ∷ []) s k ≡ []
+    empty s k (inl h) = ap (λ l. slice_index_or l k []) (own s h) ∙ bare k
+    empty s k (inr (inl h)) = ap (λ l. slice_index_or l k []) (old s h) ∙ fresh.empty s k
+    empty s k (inr (inr h)) = ap (λ l. slice_index_or l k []) (past s h)
+
 -- One live term more of the last schema
 
 abbrev spread : Bor Node → List (Bor Node) → Spread
@@ -50,21 +85,12 @@ spread b lives = record { schema = b; lives = lives }
 whole : (z w : Spread) → z.schema ≡ w.schema → z.lives ≡ w.lives → z ≡ w
 whole z w p q = ap₂ spread p q
 
-pub housed_is : (xs : List Spread) (b : Bor Node) (n : ℕ) (x new : Spread) → suc n ≡ length xs → x ≡ slice_index_or xs n x → new.schema ≡ x.schema → new.lives ≡ x.lives ++ b ∷ []
-    → slice_set xs n new ≡ with_live xs b
-housed_is [] b n x new e read schema lives = absurd (omega arith)
-housed_is (y ∷ []) b zero x new e read schema lives = ap (λ z. z ∷ []) (same y read)
-  where
-    same : (y : Spread) → x ≡ y → new ≡ record { schema = y.schema; lives = y.lives ++ b ∷ [] }
-    same y e = whole new (record { schema = y.schema; lives = y.lives ++ b ∷ [] }) (schema ∙ ap (λ (z : Spread). z.schema) e) (lives ∙ ap (λ (z : Spread). z.lives ++ b ∷ []) e)
-housed_is (y ∷ []) b (suc n) x new e read schema lives = absurd (omega arith)
-housed_is (y ∷ z ∷ xs) b zero x new e read schema lives = absurd (omega arith)
-housed_is (y ∷ z ∷ xs) b (suc n) x new e read schema lives = ap (λ l. y ∷ l) (housed_is (z ∷ xs) b n x new (omega arith) read schema lives)
+pub housed_is : (xs rest after : List Spread) (b : Bor Node) (x new : Spread) → xs ≡ rest ++ x ∷ [] → after ≡ rest ++ new ∷ [] → new.schema ≡ x.schema → new.lives ≡ x.lives ++ b ∷ [] → after ≡ with_live xs b
+housed_is xs rest after b x new xs_is after_is schema lives =
+    after_is ∙ ap (λ z. rest ++ z ∷ []) (whole new (housing x b) schema lives) ∙ sym (ap (λ l. with_live l b) xs_is ∙ with_live_is rest x b)
 
-pub unhoused_is : (xs : List Spread) (n : ℕ) (x new : Spread) → x ≡ slice_index_or xs n x → new.schema ≡ x.schema → new.lives ≡ x.lives → slice_set xs n new ≡ xs
-unhoused_is [] n x new read schema lives = refl
-unhoused_is (y ∷ xs) zero x new read schema lives = ap (λ z. z ∷ xs) (whole new x schema lives ∙ read)
-unhoused_is (y ∷ xs) (suc n) x new read schema lives = ap (λ l. y ∷ l) (unhoused_is xs n x new read schema lives)
+pub unhoused_is : (xs rest after : List Spread) (x new : Spread) → xs ≡ rest ++ x ∷ [] → after ≡ rest ++ new ∷ [] → new.schema ≡ x.schema → new.lives ≡ x.lives → after ≡ xs
+unhoused_is xs rest after x new xs_is after_is schema lives = after_is ∙ ap (λ z. rest ++ z ∷ []) (whole new x schema lives) ∙ sym xs_is
 
 -- Terms of rows
 

@@ -1,5 +1,5 @@
 -- The rules of explored symbols: one after another, and that nothing is passed over.
-use Rattle.std.proofs.Common.{◌≡◌, ℕ, zero, suc, ◌+◌, ◌-◌, ◌<◌, ◌≤◌, ◌⊎◌, inl, inr, true≢false, Bool, List, [], ◌∷◌, ◌++◌, length, drop, true, false, Some, option_map, slice_get, slice_index_or, refl, sym, ap, ◌∙◌, subst, arith}
+use Rattle.std.proofs.Common.{◌≡◌, ℕ, zero, suc, ◌+◌, ◌-◌, ◌<◌, ◌≤◌, ◌⊎◌, inl, inr, true≢false, Bool, List, [], ◌∷◌, ◌++◌, length, drop, true, false, Some, option_map, slice_get, slice_index_or, sym, ap, ◌∙◌, subst, arith}
 use Rattle.std.proofs.Math.Nat.{eq-or-lt_of_le}
 use Rattle.std.proofs.lemmas.Bool.{cases_lt}
 use Rattle.law_sig.specs.Signature.{symbol_at, args_of, result_of}

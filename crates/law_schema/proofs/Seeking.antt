@@ -1,11 +1,9 @@
 -- Rows of picks for the arguments of a symbol stand for its considered applications: which of them comes first and next.
-use Rattle.std.proofs.Common.{◌≡◌, ℕ, suc, ◌+◌, ◌-◌, ◌^◌, ◌<◌, ◌≤◌, min, ◌⊎◌, inl, inr, List, [], ◌∷◌, length, map, drop, Option, Some, None, slice_get, refl, sym, ap, ◌∙◌, subst, subst₂, arith}
+use Rattle.std.proofs.Common.{◌≡◌, ℕ, suc, ◌+◌, ◌-◌, ◌^◌, ◌<◌, ◌≤◌, min, ◌⊎◌, inl, inr, List, [], ◌∷◌, length, map, drop, Option, Some, None, slice_get, refl, sym, ◌∙◌, subst, subst₂, arith}
 use Rattle.std.proofs.lemmas.Bool.{cases_lt}
 use Rattle.std.specs.Option.{MatchOption}
-use Rattle.law_sig.specs.Lists.{In, Each}
 use Rattle.law_sig.specs.Trees.{schema_of}
 use Rattle.law_sig.specs.Signature.{weight_at}
-use Rattle.law_sig.specs.Tests.{weight}
 use Rattle.law_sig.specs.Order.{IsBefore}
 use Rattle.law_sig.specs.WellFormed.{IsWellFormed}
 use Rattle.law_sig.specs.Expected.{IsFirstAbove, IsSpent}
@@ -37,7 +35,7 @@ use Rattle.law_schema.specs.Rules.{IsRule, AreBetween, AreRules, HasNone, IsFirs
 use Rattle.law_schema.specs.Course.{given}
 use Rattle.law_schema.specs.Columns.{Columns, column_below, lists_below, counts_below}
 use Rattle.law_schema.specs.Walks.{done_at, rows_done, IsWalk}
-use Rattle.law_schema.specs.Places.{IsStocked, NoRows, IsOver, IsStarted, IsApplied, IsAt, IsAhead, IsStanding, IsConsideredAt, IsFirstAhead, FirstRow, FirstApp, FirstPlace, GoesAhead}
+use Rattle.law_schema.specs.Places.{IsStocked, NoRows, IsStarted, IsApplied, IsStanding, IsConsideredAt, IsFirstAhead, FirstApp, FirstPlace, GoesAhead}
 use Rattle.law_schema.proofs.RuleFacts.{rules_short, rules_got, after_rule, head_is, none_left, skip, declared_of, first_var_of, no_var_of}
 use Rattle.law_schema.proofs.ColumnFacts.{counts_are, columns_are}
 

@@ -1,19 +1,14 @@
 -- What is known of a search's schemas after each call.
-use Rattle.std.proofs.Common.{◌≡◌, ◌≢◌, ℕ, suc, ◌+◌, ◌<◌, ◌≤◌, ◌⊎◌, inl, inr, true, false, List, [], ◌∷◌, ◌++◌, length, map, Bool, Option, Some, None, slice_get, refl, sym, ap, ◌∙◌, subst, subst₂, append-nil, append_assoc, arith}
+use Rattle.std.proofs.Common.{◌≡◌, ℕ, ◌<◌, ◌⊎◌, inl, inr, true, false, List, [], ◌∷◌, ◌++◌, Bool, Option, Some, None, slice_get, refl, sym, ap, ◌∙◌, subst, append-nil, append_assoc}
 use denote.Bor.{Bor}
 use Rattle.law_sig.specs.Lists.{In, Each, Rising}
 use Rattle.law_sig.specs.Trees.{schema_of}
-use Rattle.law_sig.specs.Signature.{sort_of}
-use Rattle.law_sig.specs.Tests.{weight, is_bounded}
+use Rattle.law_sig.specs.Tests.{is_bounded}
 use Rattle.law_sig.specs.Order.{IsBefore}
-use Rattle.law_sig.specs.WellFormed.{IsWellFormed}
-use Rattle.law_sig.specs.Expected.{IsAbove, IsFirstAbove, IsSpent}
+use Rattle.law_sig.specs.Expected.{IsAbove, IsFirstAbove}
 use Rattle.law_sig.specs.Schemas.{IsConsidered, IsInstance}
-use Rattle.law_sig.specs.declared.tree.SortId.{SortId}
 use Rattle.law_sig.specs.declared.tree.Tree.{Tree}
-use Rattle.law_sig.specs.declared.tree.Tree.TheVariants.{Var, App}
 use Rattle.law_sig.specs.declared.parts.SigParts.{SigParts}
-use Rattle.law_laws.proofs.BodyFacts.{some_is}
 use Rattle.law_laws.proofs.Considering.{considered_more}
 use Rattle.law_laws.proofs.ListFacts.{in_left, each_map, each_both, each_left, each_right, rising_both}
 use Rattle.law_laws.proofs.Orders.{never_before_itself, before_chain}
@@ -21,17 +16,15 @@ use Rattle.law_bank.specs.declared.node.Node.{Node}
 use Rattle.law_bank.specs.Terms.{tree_of, trees_of}
 use Rattle.law_listing.proofs.PickFacts.{compared}
 use Rattle.law_listing.proofs.Rising.{rising_places}
-use Rattle.law_schema.specs.declared.rules.Rules.{Rules}
 use Rattle.law_schema.specs.declared.stock.Spread.{Spread}
 use Rattle.law_schema.specs.declared.schemas.Turn.{Turn}
 use Rattle.law_schema.specs.declared.schemas.Turn.TheVariants as turn
-use Rattle.law_schema.specs.Rules.{AreRules}
-use Rattle.law_schema.specs.Course.{given, tree_in}
+use Rattle.law_schema.specs.Course.{given}
 use Rattle.law_schema.specs.Columns.{Columns}
 use Rattle.law_schema.specs.Spreads.{schema_terms, schema_trees, live_terms, live_trees}
 use Rattle.law_schema.specs.Places.{IsStocked, IsConsideredAt}
 use Rattle.law_schema.specs.Blocks.{IsHouse, IsHoused}
-use Rattle.law_schema.specs.Inside.{IsReachedAt, IsReached, IsRight, AreUpto, with_live}
+use Rattle.law_schema.specs.Inside.{IsReached, IsRight, AreUpto, with_live}
 use Rattle.law_schema.proofs.Housing.{maps_append}
 
 -- Orders
@@ -74,13 +67,6 @@ next_right parts spreads columns t o c r first = record {
     after : (o : Option Tree) → IsReached parts (schema_trees spreads) t o → IsAbove (IsBefore parts) (given o) c → Each (λ d. IsBefore parts d c) (schema_trees spreads)
     after None h above = subst (Each (λ d. IsBefore parts d c)) (sym h) tt
     after (Some b) h above = upto_then parts b c (schema_trees spreads) above.0 h.upto
-
-pub kill_right : (parts : SigParts) (spreads : List Spread) (columns : Columns) (t : Turn) (o : Option Tree) → IsRight parts spreads columns t o → IsRight parts spreads columns turn.Settled o
-kill_right parts spreads columns t o r = record { stocked = r.stocked; rising = r.rising; houses = r.houses; reached = by o r.reached }
-  where
-    by : (o : Option Tree) → IsReached parts (schema_trees spreads) t o → IsReached parts (schema_trees spreads) turn.Settled o
-    by None h = h
-    by (Some c) h = record { considered = h.considered; upto = h.upto; fresh = λ e. absurd (cc e) }
 
 -- One spread schema more
 

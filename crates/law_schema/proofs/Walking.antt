@@ -1,5 +1,5 @@
 -- A walk that starts.
-use Rattle.std.proofs.Common.{◌≡◌, ℕ, ◌≤◌, ◌⊎◌, inl, inr, Bool, true, false, List, [], ◌∷◌, length, vec_len, ap, sym, subst, subst₂, ◌∙◌, arith}
+use Rattle.std.proofs.Common.{◌≡◌, ℕ, ◌⊎◌, inl, inr, Bool, true, false, List, [], ◌∷◌, length, vec_len, ap, sym, subst, ◌∙◌, arith}
 use Rattle.std.specs.Prelude.{Vec}
 use Rattle.std.specs.declared.alloc.Global.{Global}
 use Rattle.std.specs.Bool.{MatchBool}
@@ -12,7 +12,6 @@ use Rattle.law_listing.specs.Picks.{IsLower, IsRow, StartsFrom, IsRowFrom, AreFi
 use Rattle.law_listing.proofs.Staging.{first_same, spent_same}
 use Rattle.law_schema.specs.declared.walk.Stand.{Stand}
 use Rattle.law_schema.specs.declared.walk.Stand.TheVariants.{Nowhere, Before}
-use Rattle.law_schema.specs.declared.walk.Walk.{Walk}
 use Rattle.law_schema.specs.Walks.{IsReady, IsWalk}
 
 starts_any : (row : List Pick) → StartsFrom 0 row

@@ -1,6 +1,5 @@
 -- The instances of the schema that was spread last.
-use Rattle.std.specs.Prelude.{◌≡◌, ◌≢◌, ℕ, suc, ◌+◌, ◌<◌, ◌≤◌, List, [], ◌∷◌, true, Option, Some, None, slice_get, slice_index_or}
-use Rattle.std.specs.Option.{MatchOption}
+use Rattle.std.specs.Prelude.{◌≡◌, ℕ, suc, ◌+◌, ◌<◌, ◌≤◌, List, true, Option, Some, None, slice_get, slice_index_or}
 use denote.Bor.{Bor}
 use Rattle.law_sig.specs.Lists.{In, Each, Rising}
 use Rattle.law_sig.specs.Trees.{schema_of}
@@ -23,7 +22,6 @@ use Rattle.law_schema.specs.declared.stock.Entry.{Entry}
 use Rattle.law_schema.specs.declared.stock.Spread.{Spread}
 use Rattle.law_schema.specs.declared.walk.Stand.{Stand}
 use Rattle.law_schema.specs.declared.walk.Stand.TheVariants.{Nowhere, Before, At}
-use Rattle.law_schema.specs.declared.walk.Walk.{Walk}
 use Rattle.law_schema.specs.declared.block.Variables.{Variables}
 use Rattle.law_schema.specs.declared.block.Fillings.{Fillings}
 use Rattle.law_schema.specs.declared.block.Block.{Block}

@@ -1,5 +1,5 @@
 -- Places of schemas: where one stands, which comes first and next, and what is known of the spread ones.
-use Rattle.std.specs.Prelude.{◌≡◌, ℕ, ◌+◌, ◌-◌, ◌<◌, ◌≤◌, List, [], ◌∷◌, Option, Some, None, slice_get}
+use Rattle.std.specs.Prelude.{◌≡◌, ℕ, ◌-◌, ◌≤◌, List, [], Option, Some, None, slice_get}
 use Rattle.std.specs.Option.{MatchOption}
 use Rattle.law_sig.specs.Lists.{In, Each, Rising}
 use Rattle.law_sig.specs.Trees.{schema_of}

@@ -1,4 +1,4 @@
-ghost use Rattle.std.specs.Prelude.{◌≡◌, ◌≢◌, ◌<◌, length, false, IfOk, OnOk, OnErr};
+ghost use Rattle.std.specs.Prelude.{◌≡◌, ◌≢◌, ◌<◌, [], ◌∷◌, ◌++◌, length, false, IfOk, OnOk, OnErr};
 ghost use Rattle.std.specs.Option.{MatchOption};
 ghost use Rattle.law_sig.specs.declared.parts.SigParts.{SigParts};
 ghost use Rattle.law_bank.specs.Bank.{IsOf, AllOf, Grows};
@@ -73,14 +73,29 @@ fn home(rules: &Rules, place: &Place) -> (SortId, u32)
     }
 }
 
+/// Adds a live term to those of a schema.
+fn admit_to<'a>(spread: &mut Spread<'a>, live: Term<'a>) -> Result<(), NoMemory>
+    ensures schema { spread.new.schema ≡ spread.old.schema }
+    ensures ok { OnOk result (spread.new.lives ≡ spread.old.lives ++ live.entry ∷ []) }
+    ensures err { OnErr result (spread.new.lives ≡ spread.old.lives) }
+{
+    spread.lives.push(live)
+}
+
 /// Adds a live term to the spread schema that came last.
 fn house<'a>(spreads: &mut Vec<Spread<'a>>, live: Term<'a>) -> Result<(), NoMemory>
     requires { 0 < length spreads.old.items }
     ensures ok { OnOk result (spreads.new.items ≡ with_live spreads.old.items live.entry) }
     ensures err { OnErr result (spreads.new.items ≡ spreads.old.items) }
 {
-    let last = spreads.len() - 1;
-    spreads[last].lives.push(live)
+    let Some(mut last) = spreads.pop() else {
+        unreachable!()
+    };
+    let admitted = admit_to(&mut last, live);
+    let Ok(()) = spreads.push(last) else {
+        unreachable!()
+    };
+    admitted
 }
 
 impl<'a> Schemas<'a> {
@@ -166,7 +181,8 @@ impl<'a> Schemas<'a> {
         let Ok(()) = self.spreads.push(Spread {
             schema,
             lives: Seq::new(self.alloc),
-        }) else {
+        })
+        else {
             unreachable!()
         };
         self.block = block;
@@ -184,10 +200,7 @@ impl<'a> Schemas<'a> {
 
     /// The next instance of the schema that was spread last, with arguments that are all live; `None` exactly at the end. After a refusal
     /// all is as before.
-    pub fn next_instance(
-        &mut self,
-        bank: &mut TermBank<'a>,
-    ) -> Result<Option<Term<'a>>, NoMemory>
+    pub fn next_instance(&mut self, bank: &mut TermBank<'a>) -> Result<Option<Term<'a>>, NoMemory>
         requires spread { self.old.turn ≡ Turn.Spread }
         requires held { AllOf bank.old self.old.lives }
         ensures next { IfOk result (λ r. (parts : SigParts) → AreRules parts self.old.rules → GivesInstance parts self.old r) }
@@ -196,12 +209,7 @@ impl<'a> Schemas<'a> {
         ensures held { IfOk result (λ r. MatchOption r (Unit {0}) (λ term. IsOf bank.new term.now)) }
         ensures grows { Grows bank.old bank.new }
     {
-        let found = next_in(
-            self.alloc,
-            bank,
-            self.spreads.as_slice(),
-            &mut self.block,
-        )?;
+        let found = next_in(self.alloc, bank, self.spreads.as_slice(), &mut self.block)?;
         let Some(term) = found else {
             return Ok(None);
         };

@@ -54,11 +54,7 @@ pub fn empty_columns<'a>(
 }
 
 /// How many spread schemas there are in each bucket of a column below a weight.
-fn sizes(
-    alloc: Global,
-    column: &[Seq<Entry<'_>>],
-    weight: usize,
-) -> Result<Seq<usize>, NoMemory>
+fn sizes(alloc: Global, column: &[Seq<Entry<'_>>], weight: usize) -> Result<Seq<usize>, NoMemory>
     ensures { IfOk result (λ sizes. sizes ≡ map length (take weight column.now)) }
 {
     let mut sizes = Seq::new(alloc);
@@ -103,11 +99,7 @@ pub fn counts_below(
 }
 
 /// What a pick stands for, among the spread schemas of a sort.
-fn entry_at<'a>(
-    columns: &[Vec<Seq<Entry<'a>>>],
-    sort: SortId,
-    pick: Pick,
-) -> Option<Entry<'a>>
+fn entry_at<'a>(columns: &[Vec<Seq<Entry<'a>>>], sort: SortId, pick: Pick) -> Option<Entry<'a>>
     ensures { result ≡ slice_get (bucket (columns_of columns.now) sort pick.weight) pick.at }
 {
     let column = columns.get(sort.0 as usize)?;

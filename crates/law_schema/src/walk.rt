@@ -84,11 +84,7 @@ fn met_by_one_more(
 
 #[tactic(auto, using(law_listing::proofs::PickFacts::more_fits, law_listing::proofs::PickFacts::no_fits))]
 /// For each number of last places, which weights up to this one their rows may have.
-fn fits_of(
-    alloc: Global,
-    choices: &[Seq<usize>],
-    weight: usize,
-) -> Result<Seq<Seq<bool>>, NoMemory>
+fn fits_of(alloc: Global, choices: &[Seq<usize>], weight: usize) -> Result<Seq<Seq<bool>>, NoMemory>
     requires { weight < 2 ^ 32 }
     ensures { IfOk result (AreAllFits choices.now) }
 {
@@ -216,11 +212,7 @@ fn blank(alloc: Global, count: usize) -> Result<Vec<Pick>, NoMemory>
 
 impl Walk {
     /// Before the first row, if there is one.
-    pub fn start(
-        alloc: Global,
-        choices: Seq<Seq<usize>>,
-        weight: u32,
-    ) -> Result<Walk, NoMemory>
+    pub fn start(alloc: Global, choices: Seq<Seq<usize>>, weight: u32) -> Result<Walk, NoMemory>
         ensures walk { IfOk result IsWalk }
         ensures choices { IfOk result (λ walk. walk.choices ≡ choices) }
         ensures weight { IfOk result (λ walk. walk.weight ≡ weight) }
@@ -261,7 +253,9 @@ impl Walk {
             Stand::Nowhere => false,
             Stand::Before => true,
             Stand::At => {
-                self.next.as_mut_slice().copy_from_slice(self.row.as_slice());
+                self.next
+                    .as_mut_slice()
+                    .copy_from_slice(self.row.as_slice());
                 set_next(
                     self.choices.as_slice(),
                     self.fits.as_slice(),

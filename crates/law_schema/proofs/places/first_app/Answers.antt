@@ -1,4 +1,4 @@
-use Rattle.std.proofs.Common.{◌≡◌, ◌≤◌, ◌+◌, ℕ, sym, subst, arith}
+use Rattle.std.proofs.Common.{◌≤◌, sym, subst, arith}
 use Rattle.law_schema.specs.Columns.{columns_of}
 use Rattle.law_schema.specs.Places.{FirstRow}
 use Rattle.law_schema.proofs.Seeking.{left_on, first_left, none_left_at_all}

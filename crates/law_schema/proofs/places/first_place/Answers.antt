@@ -1,4 +1,4 @@
-use Rattle.std.proofs.Common.{◌≡◌, ◌≤◌, ℕ, sym, subst, arith}
+use Rattle.std.proofs.Common.{arith}
 use Rattle.law_schema.specs.Columns.{columns_of}
 use Rattle.law_schema.proofs.Items.{if_ok}
 use Rattle.law_schema.proofs.Seeking.{var_first, no_var_first}

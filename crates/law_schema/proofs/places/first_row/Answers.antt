@@ -1,4 +1,4 @@
-use Rattle.std.proofs.Common.{◌≡◌, ◌+◌, ◌≤◌, ℕ, suc, length, Some, slice_get, sym, subst, arith}
+use Rattle.std.proofs.Common.{◌≡◌, ◌+◌, ◌≤◌, suc, length, subst, arith}
 use Rattle.std.specs.Option.{MatchOption}
 use Rattle.law_schema.specs.Columns.{columns_of}
 use Rattle.law_schema.specs.Places.{NoRows, IsStarted}

@@ -1,4 +1,4 @@
-use Rattle.std.proofs.Common.{◌≡◌, subst}
+use Rattle.std.proofs.Common.{subst}
 use Rattle.law_schema.specs.declared.places.Place.TheVariants as place
 use Rattle.law_schema.specs.Columns.{columns_of}
 use Rattle.law_schema.specs.Places.{IsStanding}

@@ -1,4 +1,3 @@
-use Rattle.std.proofs.Common.{◌≡◌, length}
 use Rattle.law_schema.specs.Columns.{AreFresh, columns_of}
 use Rattle.law_schema.proofs.stock.empty_columns.Given as goal
 

@@ -1,4 +1,4 @@
-use Rattle.std.proofs.Common.{inl, inr, ap, length, vec_len, ◌≡◌, ◌∙◌, subst, subst₂}
+use Rattle.std.proofs.Common.{inl, inr, ap, length, ◌∙◌, subst, subst₂}
 use Rattle.law_listing.specs.Picks.{AreFits, AreAllFits}
 use Rattle.law_schema.proofs.Walking.{IsSought, walk_started}
 use Rattle.law_schema.proofs.walk.Walk.start.Goals as goal
