@@ -27,8 +27,6 @@ mod signatures;
 #[cfg(test)]
 mod streams;
 #[cfg(test)]
-mod terms;
-#[cfg(test)]
 mod towers;
 #[cfg(test)]
 mod trees;
