@@ -1,1 +1,3 @@
 mod CountingFacts
+mod LowFacts
+mod PlayingFacts

@@ -1,6 +1,7 @@
 //! Worked examples over the public calls of all crates, in tables, with values from outside. Nothing stands on this crate.
 #![tactic(auto)]
 
+pub mod banks;
 #[cfg(test)]
 mod certificates;
 #[cfg(test)]
@@ -20,9 +21,13 @@ mod run;
 #[cfg(test)]
 mod samples;
 #[cfg(test)]
+mod schemas;
+#[cfg(test)]
 mod signatures;
 #[cfg(test)]
 mod streams;
+#[cfg(test)]
+mod towers;
 #[cfg(test)]
 mod trees;
 #[cfg(test)]

@@ -1,7 +1,7 @@
 //! Values that are kept once, and what an application of a function gives and costs.
 use crate::samples::PLUS;
 use crate::types::signature;
-use law_eval::{EvalErr, apply};
+use law_eval::{Buffers, EvalErr, apply, apply_with};
 use law_sig::{NoMemory, Sig, SymId};
 use law_value::ValueBank;
 use std::alloc::Global;
@@ -43,13 +43,33 @@ fn cost(alloc: Global, sig: &Sig, budget: u64) -> Result<Option<u64>, EvalErr> {
     }
 }
 
-/// `plus` is called twice, and a successor is made.
+/// The same in buffers that are kept, and in a bank of its own.
+fn cost_in<'s>(
+    buffers: &mut Buffers<'s>,
+    alloc: Global,
+    sig: &'s Sig,
+    budget: u64,
+) -> Result<Option<u64>, EvalErr> {
+    let mut bank = ValueBank::new(alloc);
+    let zero = bank.make(ZERO, &[])?;
+    let one = bank.make(NEXT, &[zero])?;
+    let (sum, cost) = apply_with(buffers, alloc, sig, &mut bank, SUM, &[one, zero], budget)?;
+    if ValueBank::same(sum, one) {
+        Ok(Some(cost))
+    } else {
+        Ok(None)
+    }
+}
+
+/// `plus` is called twice, and a successor is made; what an application that is over leaves in the buffers changes nothing.
 fn costs_three(alloc: Global) -> bool {
     match signature(alloc, PLUS) {
         Some(sig) => {
+            let mut buffers = Buffers::new(alloc);
             cost(alloc, &sig, 1000000) == Ok(Some(3))
-                && cost(alloc, &sig, 3) == Ok(Some(3))
-                && cost(alloc, &sig, 2) == Err(EvalErr::Over)
+                && cost_in(&mut buffers, alloc, &sig, 3) == Ok(Some(3))
+                && cost_in(&mut buffers, alloc, &sig, 2) == Err(EvalErr::Over)
+                && cost_in(&mut buffers, alloc, &sig, 3) == Ok(Some(3))
         }
         None => false,
     }

@@ -1,2 +1,4 @@
 pub mod BankFacts
 pub mod BindingFacts
+pub mod OrderFacts
+pub mod KboFacts

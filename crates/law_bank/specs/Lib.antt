@@ -1,4 +1,5 @@
 pub mod Terms
 pub mod Bank
 pub mod Bindings
+pub mod Orders
 pub mod Laws

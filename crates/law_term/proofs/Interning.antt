@@ -22,7 +22,7 @@ use Rattle.law_bank.specs.declared.node.Head.TheVariants.{Var, Sym}
 use Rattle.law_bank.specs.declared.node.Node.{Node, out-Node, roll-out-Node}
 use Rattle.law_bank.specs.Terms.{tree_at, tree_of, trees_of, id_of, ids_of, Fits}
 use Rattle.law_bank.specs.Bank.{Terms, IsHere, IsOf, AllOf, IsShared, capped, sorts_by, with_trees}
-use Rattle.law_bank.proofs.BankFacts.{tree_of-out, made, named, tree_key, all_stay}
+use Rattle.law_bank.proofs.BankFacts.{tree_of-out, fits_trees, made, named, tree_key, all_stay}
 use Rattle.law_term.specs.Keys.{key, key_of}
 use Rattle.law_term.specs.Inside.{Entry, nodes_of}
 
@@ -93,10 +93,6 @@ fresh k h ids is (e ∷ es) keyed none =
 pub nodes_at : (h : Head) (ts : List Tree) → Fits h ts → node_count (tree_at h ts) ≡ 1 + total (map node_count ts)
 nodes_at (Var s i) ts e = nodes-Var s i ∙ sym (ap (λ l. 1 + total (map node_count l)) e)
 nodes_at (Sym f) ts e = nodes-App f ts
-
-pub fits_trees : (h : Head) (bs : List (Bor Node)) → Fits h bs → Fits h (trees_of bs)
-fits_trees (Var s i) bs e = ap trees_of e
-fits_trees (Sym f) bs e = tt
 
 abbrev pub terms : List SortId → List ℕ → List (Bor Node) → Terms
 terms sorts weights ns = record { sorts = sorts; weights = weights; trees = trees_of ns }

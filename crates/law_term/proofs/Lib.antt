@@ -1,7 +1,14 @@
 pub mod Items
 pub mod Interning
+pub mod Firsts
 pub mod Walking
+pub mod Noting
+pub mod Tabling
 pub mod Bound
 pub mod Placing
+pub mod Counting
+pub mod Covering
+pub mod Comparing
+pub mod Numbering
 pub mod Turns
 pub mod ReadFacts

@@ -1,7 +1,7 @@
 -- A walk over the nodes of a term, step by step.
-use Rattle.std.proofs.Common.{◌≡◌, ℕ, ◌+◌, ◌*◌, ◌<◌, ◌≤◌, ◌⊎◌, inl, inr, Bool, true, false, cond, if◌then◌else◌, List, [], ◌∷◌, ◌++◌, length, map, Some, IsSome, is_some, drop, append-nil, append_assoc, ap, sym, ◌∙◌, refl, subst, arith}
-use Rattle.std.proofs.lemmas.List.{map-append, drop_all}
-use Rattle.std.proofs.lemmas.Bool.{eqb-true}
+use Rattle.std.proofs.Common.{◌≡◌, ℕ, ◌+◌, ◌*◌, ◌<◌, ◌⊎◌, inl, inr, Bool, true, false, cond, if◌then◌else◌, List, [], ◌∷◌, ◌++◌, length, map, Some, IsSome, is_some, append_assoc, ap, sym, ◌∙◌, refl, subst, arith}
+use Rattle.std.proofs.lemmas.List.{map-append}
+use Rattle.std.proofs.lemmas.Bool.{eqb-true, eq-eqb}
 use Rattle.indexmap.specs.IndexMap.{insert_entry}
 use denote.Bor.{Bor}
 use Rattle.law_sig.specs.Lists.{In, Each, total}
@@ -16,14 +16,14 @@ use Rattle.law_bank.specs.declared.node.Head.TheVariants.{Var, Sym}
 use Rattle.law_bank.specs.declared.node.Node.{Node, out-Node}
 use Rattle.law_bank.specs.Terms.{tree_at, tree_of, trees_of, id_of}
 use Rattle.law_bank.specs.Bank.{Terms, IsOf, AllOf, Grows}
-use Rattle.law_bank.proofs.BankFacts.{tree_of-out, var_tree, sym_tree, here as at_root, below, same_tree, stays, grows_on, grows_none}
+use Rattle.law_bank.proofs.BankFacts.{tree_of-out, fits_trees, var_tree, sym_tree, here as at_root, below, same_tree, stays, grows_on, grows_none}
 use Rattle.law_bank.specs.Bindings.{Binding}
 use Rattle.law_term.specs.declared.change.Change.{Change}
 use Rattle.law_term.specs.declared.change.Change.TheVariants as change
-use Rattle.law_term.specs.declared.change.Visit.{Visit}
-use Rattle.law_term.specs.declared.change.Visit.TheVariants as visit
-use Rattle.law_term.specs.Walks.{IsChange, Done, same_id, found, AllMade, IsChanged, AllChanged, visit_id, IsVisit, IsCovered, NeedsArgs, IsReady, cost, steps, IsWalking, IsEntered, IsLeft}
-use Rattle.law_term.proofs.Interning.{nodes_at, fits_trees}
+use Rattle.law_term.specs.declared.walk.Visit.{Visit}
+use Rattle.law_term.specs.declared.walk.Visit.TheVariants as visit
+use Rattle.law_term.specs.Walks.{IsChange, Done, same_id, found, AllMade, IsChanged, AllChanged, visit_id, IsVisit, IsCovered, NeedsArgs, IsReady, cost, steps, IsWalking, entered, IsEntered, IsLeft}
+use Rattle.law_term.proofs.Interning.{nodes_at}
 
 -- The table
 
@@ -60,7 +60,7 @@ images_held now done h (a ∷ as') (m ∷ ms) e =
     let rest : map (λ (b : Bor Node). found done (id_of b.now)) as' ≡ map (λ (b : Bor Node). Some b) ms = cc in
     (of_each (λ (x : ℕ × Bor Node). IsOf now x.1.now) (found_in done (id_of a.now) m first) h, images_held now done h as' ms rest)
 
-each_insert : (P : ℕ × Bor Node → Type 0) (k : ℕ) (v : Bor Node) → ((j : ℕ) → same_id k j ≡ true → P (j, v)) → P (k, v) → (es : Done) → Each P es → Each P (insert_entry same_id es k v)
+pub each_insert : (P : ℕ × Bor Node → Type 0) (k : ℕ) (v : Bor Node) → ((j : ℕ) → same_id k j ≡ true → P (j, v)) → P (k, v) → (es : Done) → Each P es → Each P (insert_entry same_id es k v)
 each_insert P k v new own [] h = (own, tt)
 each_insert P k v new own (x ∷ xs) h = by (each_insert P k v new own xs h.1) (same_id k x.0) refl
   where
@@ -104,7 +104,7 @@ needs_map old new above more (visit.Enter n) f h = tt
 needs_map old new above more (visit.Leave n) f h =
     each_map (λ (a : Bor Node). IsCovered old above (id_of a.now)) (λ (a : Bor Node). IsCovered new more (id_of a.now)) (λ a. f (id_of a.now)) (out-Node n.now).args.now h
 
-ready_less : (done : Done) (rest : List Visit) (v : Visit) → IsSome (found done (visit_id v)) → IsReady done (rest ++ v ∷ []) → IsReady done rest
+pub ready_less : (done : Done) (rest : List Visit) (v : Visit) → IsSome (found done (visit_id v)) → IsReady done (rest ++ v ∷ []) → IsReady done rest
 ready_less done [] v h r = tt
 ready_less done (x ∷ xs) v h r = (needs_map done done (xs ++ v ∷ []) xs x (covers_less done xs v h) r.0, ready_less done xs v h r.1)
 
@@ -124,20 +124,38 @@ ready_top : (done : Done) (rest : List Visit) (v : Visit) → IsReady done (rest
 ready_top done [] v r = r.0
 ready_top done (x ∷ xs) v r = ready_top done xs v r.1
 
-abbrev pub enters : List (Bor Node) → List Visit
-enters args = map (λ (a : Bor Node). visit.Enter a) args
+-- a visit that enters a node
+abbrev IsEntering : Visit → Type 0
+IsEntering v = (n : Bor Node) × (v ≡ visit.Enter n)
 
-enters_ready : (done : Done) (args : List (Bor Node)) → IsReady done (enters args)
-enters_ready done [] = tt
-enters_ready done (a ∷ as') = (tt, enters_ready done as')
+entering : (args : List (Bor Node)) → Each IsEntering (entered args)
+entering [] = tt
+entering (a ∷ as') = each_both IsEntering (entered as') (visit.Enter a ∷ []) (entering as') ((a, refl), tt)
 
-enters_need : (done : Done) (n : Bor Node) → NeedsArgs done (enters (out-Node n.now).args.now) (visit.Leave n)
-enters_need done n = each_of (λ (a : Bor Node). IsCovered done (enters (out-Node n.now).args.now) (id_of a.now)) (out-Node n.now).args.now
-    (λ a i. inr (in_map visit_id (in_map (λ (b : Bor Node). visit.Enter b) i)))
+ready_entering : (done : Done) (xs : List Visit) → Each IsEntering xs → IsReady done xs
+ready_entering done [] h = tt
+ready_entering done (x ∷ xs) h = (subst (NeedsArgs done xs) (sym h.0.1) tt, ready_entering done xs h.1)
 
-enters_visited : (start : Terms) (args : List (Bor Node)) → AllOf start args → Each (IsVisit start) (enters args)
-enters_visited start [] h = tt
-enters_visited start (a ∷ as') h = (h.0, enters_visited start as' h.1)
+pub entered_ready : (done : Done) (args : List (Bor Node)) → IsReady done (entered args)
+entered_ready done args = ready_entering done (entered args) (entering args)
+
+entered_in : {a : Bor Node} {args : List (Bor Node)} → In a args → In (visit.Enter a) (entered args)
+entered_in (here {x = x} {xs = xs}) = in_right (entered xs) here
+entered_in (there {y = y} at) = in_left (visit.Enter y ∷ []) (entered_in at)
+
+entered_need : (done : Done) (n : Bor Node) → NeedsArgs done (entered (out-Node n.now).args.now) (visit.Leave n)
+entered_need done n = each_of (λ (a : Bor Node). IsCovered done (entered (out-Node n.now).args.now) (id_of a.now)) (out-Node n.now).args.now
+    (λ a i. inr (in_map visit_id (entered_in i)))
+
+pub entered_visited : (start : Terms) (args : List (Bor Node)) → AllOf start args → Each (IsVisit start) (entered args)
+entered_visited start [] h = tt
+entered_visited start (a ∷ as') h = each_both (IsVisit start) (entered as') (visit.Enter a ∷ []) (entered_visited start as' h.1) (h.0, tt)
+
+-- one term more is to be entered
+pub entered_more : (old mid new : List Visit) (terms : List (Bor Node)) (first : Bor Node) (others : List (Bor Node)) → terms ≡ first ∷ others
+    → mid ≡ old ++ entered others → new ≡ mid ++ visit.Enter first ∷ [] → new ≡ old ++ entered terms
+entered_more old mid new terms first others is m e =
+    e ∙ ap (λ l. l ++ visit.Enter first ∷ []) m ∙ append_assoc old (entered others) (visit.Enter first ∷ []) ∙ ap (λ l. old ++ entered l) (sym is)
 
 -- Steps
 
@@ -148,43 +166,39 @@ total_append (x ∷ xs) ys = let e = total_append xs ys in omega (arith, e)
 steps_append : (xs ys : List Visit) → steps (xs ++ ys) ≡ steps xs + steps ys
 steps_append xs ys = ap total (map-append cost xs ys) ∙ total_append (map cost xs) (map cost ys)
 
-enters_cost : (args : List (Bor Node)) → steps (enters args) ≡ 2 * total (map node_count (trees_of args))
-enters_cost [] = refl
-enters_cost (a ∷ as') = let e = enters_cost as' in omega (arith, e)
+entered_cost : (args : List (Bor Node)) → steps (entered args) ≡ 2 * total (map node_count (trees_of args))
+entered_cost [] = refl
+entered_cost (a ∷ as') = let e = entered_cost as' in let f = steps_append (entered as') (visit.Enter a ∷ []) in omega (arith, e, f)
 
 -- A step
 
-module _ (start now : Terms) (σ : Subst) (term : Node) (done : Done) (before rest : List Visit) (n : Bor Node) (w : IsWalking start now σ term done before) where
+module _ (start : Terms) (done : Done) (before rest : List Visit) (n : Bor Node) (visited : Each (IsVisit start) before) (ready : IsReady done before) where
   module _ (is : before ≡ rest ++ visit.Enter n ∷ []) where
-    top_entered : IsOf start n.now
-    top_entered = (each_right (IsVisit start) rest (visit.Enter n ∷ []) (subst (Each (IsVisit start)) is w.visited)).0
+    pub top_entered : IsOf start n.now
+    top_entered = (each_right (IsVisit start) rest (visit.Enter n ∷ []) (subst (Each (IsVisit start)) is visited)).0
 
-    pub walk_entered : (new : List Visit) → IsEntered done n rest new → IsWalking start now σ term done new
-    walk_entered new (inl k) = record {
-      grows = w.grows;
-      made = w.made;
-      changed = w.changed;
-      visited = subst (Each (IsVisit start)) (sym k.1) (each_left (IsVisit start) rest (visit.Enter n ∷ []) (subst (Each (IsVisit start)) is w.visited));
-      ready = subst (IsReady done) (sym k.1) (ready_less done rest (visit.Enter n) k.0 (subst (IsReady done) is w.ready));
-      covered = subst (λ l. IsCovered done l (id_of term)) (sym k.1) (covers_less done rest (visit.Enter n) k.0 (id_of term) (subst (λ l. IsCovered done l (id_of term)) is w.covered));
-    }
-    walk_entered new (inr e) = record {
-      grows = w.grows;
-      made = w.made;
-      changed = w.changed;
-      visited = subst (Each (IsVisit start)) (sym e)
-          (each_both (IsVisit start) rest (visit.Leave n ∷ enters (out-Node n.now).args.now)
-          (each_left (IsVisit start) rest (visit.Enter n ∷ []) (subst (Each (IsVisit start)) is w.visited))
-          (top_entered, enters_visited start (out-Node n.now).args.now (below start n.now top_entered)));
-      ready = subst (IsReady done) (sym e) (ready_more done rest (enters (out-Node n.now).args.now) (visit.Enter n) (visit.Leave n) refl
-          (enters_need done n) (enters_ready done (out-Node n.now).args.now) (subst (IsReady done) is w.ready));
-      covered = subst (λ l. IsCovered done l (id_of term)) (sym e) (covers_more done rest (enters (out-Node n.now).args.now) (visit.Enter n) (visit.Leave n) refl (id_of term)
-          (subst (λ l. IsCovered done l (id_of term)) is w.covered));
-    }
+    abbrev args : List (Bor Node)
+    args = (out-Node n.now).args.now
+
+    pub visited_entered : (new : List Visit) → IsEntered done n rest new → Each (IsVisit start) new
+    visited_entered new (inl k) = subst (Each (IsVisit start)) (sym k.1) (each_left (IsVisit start) rest (visit.Enter n ∷ []) (subst (Each (IsVisit start)) is visited))
+    visited_entered new (inr e) = subst (Each (IsVisit start)) (sym e)
+        (each_both (IsVisit start) rest (visit.Leave n ∷ entered args)
+        (each_left (IsVisit start) rest (visit.Enter n ∷ []) (subst (Each (IsVisit start)) is visited))
+        (top_entered, entered_visited start args (below start n.now top_entered)))
+
+    pub ready_entered : (new : List Visit) → IsEntered done n rest new → IsReady done new
+    ready_entered new (inl k) = subst (IsReady done) (sym k.1) (ready_less done rest (visit.Enter n) k.0 (subst (IsReady done) is ready))
+    ready_entered new (inr e) = subst (IsReady done) (sym e)
+        (ready_more done rest (entered args) (visit.Enter n) (visit.Leave n) refl (entered_need done n) (entered_ready done args) (subst (IsReady done) is ready))
+
+    pub covered_entered : (id : ℕ) → IsCovered done before id → (new : List Visit) → IsEntered done n rest new → IsCovered done new id
+    covered_entered id c new (inl k) = subst (λ l. IsCovered done l id) (sym k.1) (covers_less done rest (visit.Enter n) k.0 id (subst (λ l. IsCovered done l id) is c))
+    covered_entered id c new (inr e) = subst (λ l. IsCovered done l id) (sym e)
+        (covers_more done rest (entered args) (visit.Enter n) (visit.Leave n) refl id (subst (λ l. IsCovered done l id) is c))
 
     pub fewer_entered : (new : List Visit) → IsEntered done n rest new → steps new < steps before
     fewer_entered new h =
-        let args = (out-Node n.now).args.now in
         let count : node_count (tree_of n.now) ≡ 1 + total (map node_count (trees_of args)) =
         ap node_count (tree_of-out n.now) ∙ nodes_at (out-Node n.now).head (trees_of args) (fits_trees _ _ (at_root start n.now top_entered).fits) in
         let whole : steps before ≡ steps rest + (2 * node_count (tree_of n.now) + 0) = ap steps is ∙ steps_append rest (visit.Enter n ∷ []) in
@@ -194,50 +208,76 @@ module _ (start now : Terms) (σ : Subst) (term : Node) (done : Done) (before re
             → steps before ≡ steps rest + (2 * node_count (tree_of n.now) + 0) → steps new < steps before
         by (inl k) count whole = let e = ap steps k.1 in omega (arith, e, count, whole)
         by (inr e) count whole =
-            let a : steps new ≡ steps rest + (1 + steps (enters (out-Node n.now).args.now)) = ap steps e ∙ steps_append rest (visit.Leave n ∷ enters (out-Node n.now).args.now) in
-            let b = enters_cost (out-Node n.now).args.now in omega (arith, a, b, count, whole)
+            let a : steps new ≡ steps rest + (1 + steps (entered (out-Node n.now).args.now)) = ap steps e ∙ steps_append rest (visit.Leave n ∷ entered (out-Node n.now).args.now) in
+            let b = entered_cost (out-Node n.now).args.now in omega (arith, a, b, count, whole)
 
   module _ (is : before ≡ rest ++ visit.Leave n ∷ []) where
     pub top_left : IsOf start n.now
-    top_left = (each_right (IsVisit start) rest (visit.Leave n ∷ []) (subst (Each (IsVisit start)) is w.visited)).0
+    top_left = (each_right (IsVisit start) rest (visit.Leave n ∷ []) (subst (Each (IsVisit start)) is visited)).0
+
+    pub visited_left : Each (IsVisit start) rest
+    visited_left = each_left (IsVisit start) rest (visit.Leave n ∷ []) (subst (Each (IsVisit start)) is visited)
 
     pub top_ready : Each (λ (a : Bor Node). IsSome (found done (id_of a.now))) (out-Node n.now).args.now
     top_ready = each_map (λ (a : Bor Node). IsCovered done [] (id_of a.now)) (λ (a : Bor Node). IsSome (found done (id_of a.now)))
-        (λ a. covers_none done (id_of a.now)) (out-Node n.now).args.now (ready_top done rest (visit.Leave n) (subst (IsReady done) is w.ready))
+        (λ a. covers_none done (id_of a.now)) (out-Node n.now).args.now (ready_top done rest (visit.Leave n) (subst (IsReady done) is ready))
 
     pub fewer_left : steps rest < steps before
     fewer_left = let e : steps before ≡ steps rest + 1 = ap steps is ∙ steps_append rest (visit.Leave n ∷ []) in omega (arith, e)
 
+    -- once the node is done
+    module _ (new : Done) (made : Bor Node) (finds : (id : ℕ) → found new id ≡ (if same_id (id_of n.now) id then Some made else found done id)) where
+      pub done_on : (id : ℕ) → IsSome (found done id) → IsSome (found new id)
+      done_on id h = by (same_id (id_of n.now) id) (finds id)
+        where
+          by : (b : Bool) → found new id ≡ (if b then Some made else found done id) → IsSome (found new id)
+          by true e = ap is_some e
+          by false e = subst IsSome (sym e) h
+
+      pub done_own : IsSome (found new (id_of n.now))
+      done_own = by (same_id (id_of n.now) (id_of n.now)) (eq-eqb (id_of n.now) (id_of n.now) refl) (finds (id_of n.now))
+        where
+          by : (b : Bool) → b ≡ true → found new (id_of n.now) ≡ (if b then Some made else found done (id_of n.now)) → IsSome (found new (id_of n.now))
+          by true q e = ap is_some e
+          by false q e = cc
+
+      pub ready_left : IsReady new rest
+      ready_left = ready_less new rest (visit.Leave n) done_own (ready_on done new done_on (rest ++ visit.Leave n ∷ []) (subst (IsReady done) is ready))
+
+      pub covered_left : (id : ℕ) → IsCovered done before id → IsCovered new rest id
+      covered_left id c = covers_less new rest (visit.Leave n) done_own id (covers_on done new done_on (rest ++ visit.Leave n ∷ []) id (subst (λ z. IsCovered done z id) is c))
+
+-- A step of a change
+
+module _ (start now : Terms) (σ : Subst) (term : Node) (done : Done) (before rest : List Visit) (n : Bor Node) (w : IsWalking start now σ term done before) where
+  pub walk_entered : before ≡ rest ++ visit.Enter n ∷ [] → (new : List Visit) → IsEntered done n rest new → IsWalking start now σ term done new
+  walk_entered is new h = record {
+    grows = w.grows;
+    made = w.made;
+    changed = w.changed;
+    visited = visited_entered start done before rest n w.visited w.ready is new h;
+    ready = ready_entered start done before rest n w.visited w.ready is new h;
+    covered = covered_entered start done before rest n w.visited w.ready is (id_of term) w.covered new h;
+  }
+
+  module _ (is : before ≡ rest ++ visit.Leave n ∷ []) where
     pub walk_left : (later : Terms) (new : Done) → Grows now later → IsLeft later σ n done new → IsWalking start later σ term new rest
     walk_left later new g l =
-        let tree = l.is start top_left w.changed in
+        let top = top_left start done before rest n w.visited w.ready is in
+        let tree = l.is start top w.changed in
         let same : (j : ℕ) → same_id (id_of n.now) j ≡ true → IsChanged start σ (j, l.made) =
-        λ j q m of e. tree ∙ ap (substituted σ) (same_tree start n.now m top_left of (eqb-true (id_of n.now) j q ∙ sym e)) in
+        λ j q m of e. tree ∙ ap (substituted σ) (same_tree start n.now m top of (eqb-true (id_of n.now) j q ∙ sym e)) in
         record {
           grows = grows_on start now later w.grows g;
           made = subst (AllMade later) (sym l.noted)
               (each_insert (λ (x : ℕ × Bor Node). IsOf later x.1.now) (id_of n.now) l.made (λ j q. l.held) l.held done
               (each_map (λ (x : ℕ × Bor Node). IsOf now x.1.now) (λ (x : ℕ × Bor Node). IsOf later x.1.now) (λ x. stays now later x.1.now g) done w.made));
           changed = subst (AllChanged start σ) (sym l.noted)
-              (each_insert (IsChanged start σ) (id_of n.now) l.made same (λ m of e. tree ∙ ap (substituted σ) (same_tree start n.now m top_left of (sym e))) done w.changed);
-          visited = each_left (IsVisit start) rest (visit.Leave n ∷ []) (subst (Each (IsVisit start)) is w.visited);
-          ready = ready_less new rest (visit.Leave n) own (ready_on done new on (rest ++ visit.Leave n ∷ []) (subst (IsReady done) is w.ready));
-          covered = covers_less new rest (visit.Leave n) own (id_of term) (covers_on done new on (rest ++ visit.Leave n ∷ []) (id_of term) (subst (λ z. IsCovered done z (id_of term)) is w.covered));
+              (each_insert (IsChanged start σ) (id_of n.now) l.made same (λ m of e. tree ∙ ap (substituted σ) (same_tree start n.now m top of (sym e))) done w.changed);
+          visited = visited_left start done before rest n w.visited w.ready is;
+          ready = ready_left start done before rest n w.visited w.ready is new l.made l.finds;
+          covered = covered_left start done before rest n w.visited w.ready is new l.made l.finds (id_of term) w.covered;
         }
-      where
-        on : (id : ℕ) → IsSome (found done id) → IsSome (found new id)
-        on id h = by (same_id (id_of n.now) id) (l.finds id)
-          where
-            by : (b : Bool) → found new id ≡ (if b then Some l.made else found done id) → IsSome (found new id)
-            by true e = ap is_some e
-            by false e = subst IsSome (sym e) h
-
-        own : IsSome (found new (id_of n.now))
-        own = by (same_id (id_of n.now) (id_of n.now)) (Rattle.std.proofs.lemmas.Bool.eq-eqb (id_of n.now) (id_of n.now) refl) (l.finds (id_of n.now))
-          where
-            by : (b : Bool) → b ≡ true → found new (id_of n.now) ≡ (if b then Some l.made else found done (id_of n.now)) → IsSome (found new (id_of n.now))
-            by true q e = ap is_some e
-            by false q e = cc
 
 -- The start and the end
 
@@ -255,13 +295,6 @@ module _ (start now : Terms) (σ : Subst) (term : Node) (done : Done) (w : IsWal
     pub end_held : IsOf now m.now
     end_held = of_each (λ (x : ℕ × Bor Node). IsOf now x.1.now) (found_in done (id_of term) m e) w.made
 
--- The arguments are entered
-
-pub entered_all : (visits mid old : List Visit) (top : Visit) (args : List (Bor Node)) (i : ℕ) → length args ≤ i → visits ++ enters (drop i args) ≡ mid ++ enters args
-    → mid ≡ old ++ top ∷ [] → visits ≡ old ++ top ∷ enters args
-entered_all visits mid old top args i over e m =
-    sym (append-nil visits) ∙ ap (λ l. visits ++ enters l) (sym (drop_all i args over)) ∙ e ∙ ap (λ l. l ++ enters args) m ∙ append_assoc old (top ∷ []) (enters args)
-
 -- A node over what its arguments were changed to
 
 pub changed_var : (σ : Subst) (n m : Node) (s : SortId) (i : ℕ) → (out-Node n).head ≡ Var s i → tree_of m ≡ σ s i → tree_of m ≡ substituted σ (tree_of n)
@@ -278,6 +311,7 @@ changed_sym start σ n m f done made e is images of h =
 pub change_stays : (old new : Terms) (change : Change) → Grows old new → IsChange old change → IsChange new change
 change_stays old new change.Flat g h = tt
 change_stays old new (change.Shift by) g h = tt
+change_stays old new (change.Renumber variables) g h = tt
 change_stays old new (change.Bind bindings) g h = each_map (λ (b : Binding). IsOf old b.2.now) (λ (b : Binding). IsOf new b.2.now) (λ b. stays old new b.2.now g) bindings.now h
 
 pub walk_ended : (start now : Terms) (σ : Subst) (term : Node) (done : Done) (visits : List Visit) → IsWalking start now σ term done visits → length visits ≡ 0 → IsWalking start now σ term done []

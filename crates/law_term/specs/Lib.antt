@@ -1,6 +1,11 @@
 pub mod Keys
 pub mod Inside
+pub mod Variables
+pub mod Tables
+pub mod Equations
+pub mod Pairs
 pub mod Walks
 pub mod Substs
 pub mod Places
+pub mod Numbers
 pub mod Turns

@@ -5,28 +5,36 @@ use Rattle.std.specs.Map.{lookup}
 use Rattle.indexmap.specs.IndexMap.{insert_entry}
 use denote.Bor.{Bor}
 use Rattle.law_sig.specs.Lists.{In, Each, total}
-use Rattle.law_sig.specs.Trees.{Subst, substituted, node_count}
+use Rattle.law_sig.specs.Trees.{Subst, substituted, node_count, same_sort, holes}
+use Rattle.law_sig.specs.declared.tree.SortId.{SortId}
 use Rattle.law_sig.specs.declared.tree.Tree.TheVariants as tree
+use Rattle.law_bank.specs.declared.node.Head.{Head}
+use Rattle.law_bank.specs.declared.node.Head.TheVariants.{Var, Sym}
 use Rattle.law_bank.specs.declared.node.Node.{Node, out-Node}
-use Rattle.law_bank.specs.Terms.{tree_of, id_of}
+use Rattle.law_bank.specs.Terms.{tree_of, trees_of, id_of}
 use Rattle.law_bank.specs.Bank.{Terms, IsOf, Grows}
 use Rattle.law_bank.specs.Bindings.{subst_of, AllBound}
+use Rattle.law_rewriting.specs.Pairs.{firsts}
 use Rattle.law_term.specs.declared.change.Change.{Change}
 use Rattle.law_term.specs.declared.change.Change.TheVariants as change
-use Rattle.law_term.specs.declared.change.Visit.{Visit}
-use Rattle.law_term.specs.declared.change.Visit.TheVariants as visit
+use Rattle.law_term.specs.declared.walk.Visit.{Visit}
+use Rattle.law_term.specs.declared.walk.Visit.TheVariants as visit
+use Rattle.law_term.specs.Variables.{Variable, indices, holes_in}
+use Rattle.law_term.specs.Tables.{place_by}
 
 -- what is put for each variable. An index that would pass 2^32 - 1 stops there
 abbrev pub meaning : Change → Subst
 meaning change.Flat sort index = tree.Var sort 0
 meaning (change.Shift by) sort index = tree.Var sort (min (index + by) (2 ^ 32 - 1))
 meaning (change.Bind bindings) sort index = subst_of bindings.now sort index
+meaning (change.Renumber places) sort index = tree.Var sort (place_by places.now.entries sort index)
 
 -- the terms that are put are of the bank
 abbrev pub IsChange : Terms → Change → Type 0
 IsChange bank change.Flat = Unit {0}
 IsChange bank (change.Shift by) = Unit {0}
 IsChange bank (change.Bind bindings) = AllBound bank bindings.now
+IsChange bank (change.Renumber places) = Unit {0}
 
 -- the table: an id, and the term that its node was changed to
 abbrev pub Done : Type 0
@@ -90,10 +98,15 @@ pub record IsWalking (start now : Terms) (σ : Subst) (term : Node) (done : Done
   pub ready : IsReady done visits
   pub covered : IsCovered done visits (id_of term)
 
+-- terms that are to be entered, the first of them on top
+abbrev pub entered : List (Bor Node) → List Visit
+entered [] = []
+entered (term ∷ terms) = entered terms ++ visit.Enter term ∷ []
+
 -- a node was entered: it is done already, or it is to be left after its arguments
 abbrev pub IsEntered : Done → Bor Node → List Visit → List Visit → Type 0
 IsEntered done term old new = (IsSome (found done (id_of term.now)) × (new ≡ old))
-    ⊎ (new ≡ old ++ visit.Leave term ∷ map (λ (a : Bor Node). visit.Enter a) (out-Node term.now).args.now)
+    ⊎ (new ≡ old ++ visit.Leave term ∷ entered (out-Node term.now).args.now)
 
 -- a node was left: the table has what it was changed to
 pub record IsLeft (now : Terms) (σ : Subst) (term : Bor Node) (old new : Done) : Type 0 where
@@ -102,3 +115,55 @@ pub record IsLeft (now : Terms) (σ : Subst) (term : Bor Node) (old new : Done) 
   pub finds : (id : ℕ) → found new id ≡ (if same_id (id_of term.now) id then Some made else found old id)
   pub held : IsOf now made.now
   pub is : (start : Terms) → IsOf start term.now → AllChanged start σ old → tree_of made.now ≡ substituted σ (tree_of term.now)
+
+-- Listing variables
+
+-- the index that a variable adds to those of a sort
+abbrev pub own_hole : SortId → Head → List ℕ
+own_hole s (Var u i) = if same_sort u s then i ∷ [] else []
+own_hole s (Sym f) = []
+
+-- the holes of a sort that a visit passes, and those that all do from the top on: a variable is noted as it is left
+abbrev pub holes_at : SortId → Visit → List ℕ
+holes_at s (visit.Enter n) = holes s (tree_of n.now)
+holes_at s (visit.Leave n) = own_hole s (out-Node n.now).head
+
+abbrev pub holes_left : SortId → List Visit → List ℕ
+holes_left s [] = []
+holes_left s (v ∷ above) = holes_left s above ++ holes_at s v
+
+-- a head was noted, its variable behind those that were
+abbrev pub IsHeadNoted : Head → List Variable → List Variable → Type 0
+IsHeadNoted (Var s i) old new = new ≡ old ++ (s, i) ∷ []
+IsHeadNoted (Sym f) old new = new ≡ old
+
+-- a node that wasn't done was left: its head is noted, and the node is done
+pub record IsNewlyNoted (n : Bor Node) (old new : Done) (was are : List Variable) : Type 0 where
+  pub fresh : IsSome (found old (id_of n.now)) → ⊥
+  pub head : IsHeadNoted (out-Node n.now).head was are
+  pub noted : new ≡ insert_entry same_id old (id_of n.now) n
+  pub finds : (id : ℕ) → found new id ≡ (if same_id (id_of n.now) id then Some n else found old id)
+
+-- a node was left: it was done already, or it is done now
+abbrev pub IsNoted : Bor Node → Done → Done → List Variable → List Variable → Type 0
+IsNoted n old new was are = (IsSome (found old (id_of n.now)) × (new ≡ old) × (are ≡ was)) ⊎ IsNewlyNoted n old new was are
+
+-- all variables of the nodes that are done are listed
+abbrev pub IsListed : Terms → List Variable → ℕ × Bor Node → Type 0
+IsListed bank vs e = (n : Node) → IsOf bank n → id_of n ≡ e.0 → (s : SortId) → Each (λ i. In i (indices s vs)) (holes s (tree_of n))
+
+-- a variable that is listed is that of a node that is done
+pub record IsKnown (bank : Terms) (done : Done) (v : Variable) : Type 0 where
+  pub node : Node
+  pub held : IsOf bank node
+  pub is : tree_of node ≡ tree.Var v.0 v.1
+  pub left : IsSome (found done (id_of node))
+
+-- while the variables of terms are listed
+pub record IsListing (bank : Terms) (terms : List (Bor Node)) (done : Done) (visits : List Visit) (vs : List Variable) : Type 0 where
+  pub visited : Each (IsVisit bank) visits
+  pub ready : IsReady done visits
+  pub listed : Each (IsListed bank vs) done
+  pub known : Each (IsKnown bank done) vs
+  pub once : (s : SortId) → firsts (indices s vs) ≡ indices s vs
+  pub whole : (s : SortId) → firsts (indices s vs ++ holes_left s visits) ≡ firsts (holes_in s (trees_of terms))

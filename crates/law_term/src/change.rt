@@ -2,59 +2,36 @@ ghost use Rattle.std.specs.Prelude.{◌≡◌, ℕ, ◌⊎◌, ◌+◌, ◌<◌,
 ghost use Rattle.indexmap.specs.IndexMap.{insert_entry};
 ghost use denote.Bor.{Bor};
 ghost use Rattle.law_sig.specs.Lists.{In, Each};
-ghost use Rattle.law_sig.specs.Trees.{schema_of, holes, substituted};
+ghost use Rattle.law_sig.specs.Trees.{same_sort, schema_of, holes, substituted};
 ghost use Rattle.law_sig.specs.declared.tree.SortId.{SortId};
 ghost use Rattle.law_rewriting.specs.Pairs.{shifted};
+ghost use Rattle.law_rewriting.specs.Completion.{tidied};
 ghost use Rattle.law_bank.specs.declared.node.Node.{Node, out-Node};
 ghost use Rattle.law_bank.specs.declared.node.Node as node;
 ghost use Rattle.law_bank.specs.Terms.{tree_of, id_of};
 ghost use Rattle.law_bank.specs.Bank.{Terms, IsOf, AllOf, Grows};
 ghost use Rattle.law_bank.specs.Bindings.{AllBound, subst_of};
-ghost use Rattle.law_term.specs.Walks.{meaning, IsChange, same_id, found, AllMade, AllChanged, IsEntered, IsLeft};
+ghost use Rattle.law_term.specs.Equations.{equation_of};
+ghost use Rattle.law_term.specs.Walks.{meaning, IsChange, same_id, found, AllMade, AllChanged, IsLeft};
 
 use super::bank::TermBank;
+use super::equation::Eqn;
 use super::subst::{Subst, find};
+use super::table::{place_by, places_of};
+use super::walk::{Visit, enter};
 use indexmap::IndexMap;
 use law_bank::{Head, Term};
 use law_sig::{NoMemory, SortId, SymId};
 use std::alloc::Global;
 
-/// What is put for the variables of a term: the first variable of the sort, the variable with an index greater by so much, or the
-/// term that is bound.
+/// What is put for the variables of a term: the first variable of the sort, the variable with an index greater by so much, the
+/// term that is bound, or the variable whose index is its place.
 #[derive(Clone, Copy)]
 enum Change<'a, 's> {
     Flat,
     Shift(u32),
     Bind(&'s [(SortId, u32, Term<'a>)]),
-}
-
-/// A node on the way down, or on the way up, when its arguments are done.
-#[derive(Clone, Copy)]
-enum Visit<'a> {
-    Enter(Term<'a>),
-    Leave(Term<'a>),
-}
-
-/// Makes a node's arguments be done before it is left. One that is done isn't visited again.
-fn enter<'a>(
-    done: &IndexMap<u64, Term<'a>>,
-    visits: &mut Vec<Visit<'a>>,
-    term: Term<'a>,
-) -> Result<(), NoMemory>
-    ensures { OnOk result (IsEntered done.now.entries term.entry visits.old.items visits.new.items) }
-{
-    if done.get(&term.id).is_some() {
-        return Ok(());
-    }
-    let Ok(()) = visits.push(Visit::Leave(term)) else {
-        return Err(NoMemory);
-    };
-    for arg in term.args {
-        let Ok(()) = visits.push(Visit::Enter(*arg)) else {
-            return Err(NoMemory);
-        };
-    }
-    Ok(())
+    Renumber(&'s IndexMap<u64, u32>),
 }
 
 /// What these terms were changed to.
@@ -108,6 +85,10 @@ fn leaf<'a>(
                 Ok(made)
             }
         },
+        Change::Renumber(places) => {
+            let made = bank.intern(Head::Var(sort, place_by(places, sort, index)), &[])?;
+            Ok(made)
+        }
     }
 }
 
@@ -188,6 +169,20 @@ fn changed<'a>(
     }
 }
 
+/// Two terms in a list.
+fn both<'a>(alloc: Global, left: Term<'a>, right: Term<'a>) -> Result<Vec<Term<'a>>, NoMemory>
+    ensures { IfOk result (λ terms. terms.items ≡ left.entry ∷ right.entry ∷ []) }
+{
+    let mut terms = Vec::new(alloc);
+    let Ok(()) = terms.push(left) else {
+        return Err(NoMemory);
+    };
+    let Ok(()) = terms.push(right) else {
+        return Err(NoMemory);
+    };
+    Ok(terms)
+}
+
 impl<'a> TermBank<'a> {
     /// The schema of a term: every variable is the first of its sort.
     pub fn flatten(&mut self, term: Term<'a>) -> Result<Term<'a>, NoMemory>
@@ -222,5 +217,25 @@ impl<'a> TermBank<'a> {
     {
         let made = changed(self, Change::Bind(map.as_slice()), term)?;
         Ok(made)
+    }
+
+    /// Two terms with the variables of each sort numbered from 0, in order of first occurrence, the left term's first.
+    pub fn tidy(&mut self, left: Term<'a>, right: Term<'a>) -> Result<Eqn<'a>, NoMemory>
+        requires left { IsOf self.old left.now }
+        requires right { IsOf self.old right.now }
+        ensures equation { IfOk result (λ e. equation_of e ≡ tidied (tree_of left.now) (tree_of right.now)) }
+        ensures held { IfOk result (λ e. IsOf self.new e.left.now × IsOf self.new e.right.now) }
+        ensures grows { Grows self.old self.new }
+    {
+        let sides = both(self.alloc(), left, right)?;
+        let variables = self.variables(sides.as_slice())?;
+        let places = places_of(self.alloc(), variables.as_slice())?;
+        let renumber = Change::Renumber(&places);
+        let new_left = changed(self, renumber, left)?;
+        let new_right = changed(self, renumber, right)?;
+        Ok(Eqn {
+            left: new_left,
+            right: new_right,
+        })
     }
 }

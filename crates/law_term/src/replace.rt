@@ -1,10 +1,11 @@
-ghost use Rattle.std.specs.Prelude.{◌≡◌, ◌<◌, length, IfOk, MatchOption, Some, slice_get, slice_set};
+ghost use Rattle.std.specs.Prelude.{◌≡◌, ◌<◌, length, IfOk, IfSome, MatchOption, slice_get, slice_set};
 ghost use denote.Bor.{Bor};
 ghost use Rattle.law_bank.specs.declared.node.Node.{out-Node};
 ghost use Rattle.law_bank.specs.Terms.{tree_at, tree_of, trees_of};
-ghost use Rattle.law_bank.specs.Bank.{IsOf, Grows};
-ghost use Rattle.law_term.specs.Places.{IsReplaced, HasNoPlace};
+ghost use Rattle.law_bank.specs.Bank.{Terms, IsOf, Grows};
+ghost use Rattle.law_term.specs.Places.{IsReplaced, HasNoPlace, IsAt, IsWay};
 
+use super::at::At;
 use super::bank::TermBank;
 use super::pos::Pos;
 use law_bank::Term;
@@ -20,6 +21,46 @@ fn arg<'a>(term: Term<'a>, number: u32) -> Option<Term<'a>>
     } else {
         None
     }
+}
+
+/// The term that stands at a place of a term of a bank; `None` exactly where there is no such place. It takes time in the length of
+/// the place, and no memory.
+pub fn term_at<'a>(term: Term<'a>, at: &Pos) -> Option<Term<'a>>
+    ensures found { (bank : Terms) → IsOf bank term.now → MatchOption result (HasNoPlace at.now (tree_of term.now)) (λ u. IsAt (tree_of u.now) at.now (tree_of term.now)) }
+    ensures held { (bank : Terms) → IsOf bank term.now → IfSome result (λ u. IsOf bank u.now) }
+{
+    let mut here = At { term };
+    for number in at.as_slice() {
+        let Some(below) = arg(here.term, *number) else {
+            return None;
+        };
+        here = At { term: below };
+    }
+    Some(here.term)
+}
+
+/// The terms on the way to a place, each with the number of the argument in which it goes on; `None` exactly where there is no such
+/// place.
+fn way_to<'a>(
+    bank: &TermBank<'a>,
+    term: Term<'a>,
+    place: &[u32],
+) -> Result<Option<Vec<(Term<'a>, u32)>>, NoMemory>
+    requires { IsOf bank.now term.now }
+    ensures { IfOk result (λ o. MatchOption o (HasNoPlace place.now (tree_of term.now)) (λ way. IsWay term.now way.items place.now)) }
+{
+    let mut way = Vec::new(bank.alloc());
+    let mut here = At { term };
+    for number in place {
+        let Some(below) = arg(here.term, *number) else {
+            return Ok(None);
+        };
+        let Ok(()) = way.push((here.term, *number)) else {
+            return Err(NoMemory);
+        };
+        here = At { term: below };
+    }
+    Ok(Some(way))
 }
 
 /// The term with another one in the place of an argument.
@@ -44,37 +85,9 @@ fn with_arg<'a>(
     Ok(made)
 }
 
-/// The term with another one at a place; `None` exactly where there is no such place.
-fn replace<'a>(
-    bank: &mut TermBank<'a>,
-    term: Term<'a>,
-    place: &[u32],
-    new: Term<'a>,
-) -> Result<Option<Term<'a>>, NoMemory>
-    requires term { IsOf bank.old term.now }
-    requires new { IsOf bank.old new.now }
-    ensures found { IfOk result (λ o. MatchOption o (HasNoPlace place.now (tree_of term.now)) (λ t. IsReplaced (tree_of new.now) place.now (tree_of term.now) (tree_of t.now))) }
-    ensures held { IfOk result (λ o. MatchOption o (Unit {0}) (λ t. IsOf bank.new t.now)) }
-    ensures grows { Grows bank.old bank.new }
-{
-    match place {
-        [] => Ok(Some(new)),
-        [number, others @ ..] => {
-            let Some(below) = arg(term, *number) else {
-                return Ok(None);
-            };
-            let Some(made) = replace(bank, below, others, new)? else {
-                return Ok(None);
-            };
-            let whole = with_arg(bank, term, *number, made)?;
-            Ok(Some(whole))
-        }
-    }
-}
-
 impl<'a> TermBank<'a> {
-    /// The term with another one at a place; `None` exactly where there is no such place. It takes time and the machine's stack
-    /// by the length of the place alone.
+    /// The term with another one at a place; `None` exactly where there is no such place. It takes time and memory by the length of
+    /// the place and the arguments on its way, and the machine's stack for no depth.
     pub fn replace_at(
         &mut self,
         term: Term<'a>,
@@ -87,7 +100,15 @@ impl<'a> TermBank<'a> {
         ensures held { IfOk result (λ o. MatchOption o (Unit {0}) (λ t. IsOf self.new t.now)) }
         ensures grows { Grows self.old self.new }
     {
-        let found = replace(self, term, at.as_slice(), new)?;
-        Ok(found)
+        let found = way_to(self, term, at.as_slice())?;
+        let Some(mut way) = found else {
+            return Ok(None);
+        };
+        let mut here = At { term: new };
+        while let Some((node, number)) = way.pop() {
+            let made = with_arg(self, node, number, here.term)?;
+            here = At { term: made };
+        }
+        Ok(Some(here.term))
     }
 }

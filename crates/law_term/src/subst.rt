@@ -55,7 +55,7 @@ pub fn find<'a>(bindings: &[(SortId, u32, Term<'a>)], sort: SortId, index: u32) 
 }
 
 /// Whether a variable stands before another one, by sort and then index.
-fn comes_before(sort: SortId, index: u32, other: SortId, number: u32) -> bool
+pub fn comes_before(sort: SortId, index: u32, other: SortId, number: u32) -> bool
     ensures { result ≡ comes_before sort index other number }
 {
     sort.0 < other.0 || sort.0 == other.0 && index < number
