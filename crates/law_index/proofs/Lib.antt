@@ -1,0 +1,5 @@
+pub mod Agreeing
+pub mod Applying
+pub mod Numbers
+pub mod Choosing
+pub mod Enough

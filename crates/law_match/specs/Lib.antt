@@ -1,0 +1,4 @@
+pub mod Directed
+pub mod Unifying
+pub mod Visited
+pub mod Filled

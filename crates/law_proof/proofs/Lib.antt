@@ -1,0 +1,3 @@
+pub mod Founding
+pub mod Fitting
+pub mod Replaying
