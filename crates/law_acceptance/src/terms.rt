@@ -11,7 +11,7 @@ use std::cmp::Ordering;
 
 /// Sorts 0, `B`, and 1, `M`. The symbols are numbered as they stand: `F`, `T`, `P`, `not`, `and`, `k`, `h`, `f`, `g`, `w`. Each
 /// weighs 1, but `w` weighs 3.
-const SYMBOLS: &str = "\
+pub const SYMBOLS: &str = "\
 signature 3
 size 3
 budget 10
@@ -52,7 +52,7 @@ const B: SortId = SortId(0);
 const M: SortId = SortId(1);
 
 /// The term of a text.
-fn tree(alloc: Global, sig: &Sig, text: &str) -> Option<Tree> {
+pub fn tree(alloc: Global, sig: &Sig, text: &str) -> Option<Tree> {
     let Ok(raw) = read_term(alloc, text.as_bytes()) else {
         return None;
     };
@@ -81,7 +81,7 @@ fn weights(alloc: Global, sig: &Sig) -> Result<Seq<u32>, NoMemory> {
 }
 
 /// A bank without terms.
-fn bank<'a>(alloc: Global, arena: &'a Bump<Global>, sig: &Sig) -> Result<TermBank<'a>, NoMemory> {
+pub fn bank<'a>(alloc: Global, arena: &'a Bump<Global>, sig: &Sig) -> Result<TermBank<'a>, NoMemory> {
     let sorts = sorts(alloc, sig)?;
     let weights = weights(alloc, sig)?;
     Ok(TermBank::new(alloc, arena, sorts, weights))

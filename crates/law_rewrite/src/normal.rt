@@ -1,0 +1,61 @@
+ghost use Rattle.std.specs.Prelude.{◌≡◌, ◌≤◌, IfOk};
+ghost use Rattle.law_sig.specs.declared.parts.SigParts.{SigParts};
+ghost use Rattle.law_rewriting.specs.HeadChains.{ReplaysWith, HasItsHead};
+ghost use Rattle.law_rewriting.specs.Steps.{IsNf};
+ghost use Rattle.law_bank.specs.declared.node.Node.{out-Node};
+ghost use Rattle.law_bank.specs.Terms.{tree_of};
+ghost use Rattle.law_bank.specs.Bank.{IsOf, Grows, sorts_by};
+ghost use Rattle.law_index.specs.Index.{rules_in};
+ghost use Rattle.law_proof.specs.Log.{AllKept, IsChainOf, equations_in, steps_of};
+ghost use Rattle.law_rewrite.specs.Rewriting.{IsIndexOf, IsRewriting};
+
+use super::step::step;
+use indexmap::IndexSet;
+use law_index::RuleIndex;
+use law_proof::{Chain, ProofLog};
+use law_sig::{NoMemory, Seq};
+use law_term::{Term, TermBank};
+
+/// A term that the steps so far lead to.
+#[derive(Clone, Copy)]
+struct Reached<'a> {
+    term: Term<'a>,
+}
+
+/// The normal form of a term by the equations of an index, with the chain of steps that lead to it: each is taken at the leftmost
+/// innermost place at which an equation applies, by the least number, and from left to right where both directions apply. A term from
+/// which a step still leads after 200 is given as it is. The term weighs at most 65,536, and no step makes it heavier.
+pub fn normal<'a>(
+    bank: &mut TermBank<'a>,
+    log: &ProofLog<'a>,
+    index: &RuleIndex<'a>,
+    term: Term<'a>,
+) -> Result<(Term<'a>, Chain<'a>), NoMemory>
+    requires log { AllKept bank.old log.now }
+    requires index { IsIndexOf log.now index.now }
+    requires term { IsOf bank.old term.now }
+    requires light { (out-Node term.now).weight ≤ 65536 }
+    ensures form { IfOk result (λ r. (parts : SigParts) → IsRewriting parts bank.old index.now (tree_of term.now) → IsNf parts (rules_in index.now) (steps_of r.1.steps) (tree_of term.now) (tree_of r.0.now)) }
+    ensures replays { IfOk result (λ r. ReplaysWith (HasItsHead (sorts_by bank.old.sorts)) (equations_in log.now) (steps_of r.1.steps) (tree_of term.now) (tree_of r.0.now)) }
+    ensures from { IfOk result (λ r. r.1.from ≡ term.entry) }
+    ensures to { IfOk result (λ r. r.1.to ≡ r.0) }
+    ensures held { IfOk result (λ r. IsChainOf bank.new r.1) }
+    ensures grows { Grows bank.old bank.new }
+{
+    let mut known = IndexSet::new(bank.alloc());
+    let mut steps = Seq::new(bank.alloc());
+    let mut here = Reached { term };
+    for _ in 0..200 {
+        let Some(taken) = step(bank, log, index, &mut known, here.term)? else {
+            break;
+        };
+        steps.push(taken.step)?;
+        here = Reached { term: taken.term };
+    }
+    let chain = Chain {
+        from: term,
+        steps,
+        to: here.term,
+    };
+    Ok((here.term, chain))
+}
