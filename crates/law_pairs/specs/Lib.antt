@@ -1,0 +1,4 @@
+pub mod Names
+pub mod Overlapping
+pub mod Walk
+pub mod Walking
