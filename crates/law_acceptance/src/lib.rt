@@ -7,9 +7,13 @@ mod certificates;
 #[cfg(test)]
 mod check;
 #[cfg(test)]
+mod complete;
+#[cfg(test)]
 mod explore;
 #[cfg(test)]
 mod memos;
+#[cfg(test)]
+mod pairs;
 #[cfg(test)]
 mod plain;
 #[cfg(test)]
@@ -17,9 +21,13 @@ mod pools;
 #[cfg(test)]
 mod program;
 #[cfg(test)]
+mod rewrite;
+#[cfg(test)]
 mod run;
 #[cfg(test)]
 mod samples;
+#[cfg(test)]
+mod searches;
 #[cfg(test)]
 mod signatures;
 #[cfg(test)]

@@ -1,0 +1,145 @@
+ghost use Rattle.std.specs.Prelude.{◌≡◌, ◌≤◌, IfOk, OnOk, MatchOption};
+ghost use Rattle.law_sig.specs.declared.parts.SigParts.{SigParts};
+ghost use Rattle.law_bank.specs.declared.node.Node.{out-Node};
+ghost use Rattle.law_bank.specs.Terms.{tree_of};
+ghost use Rattle.law_bank.specs.Bank.{Terms, IsOf, Grows, sorts_by};
+ghost use Rattle.law_bank.specs.Bindings.{AllBound};
+ghost use Rattle.law_rewriting.specs.Unifiers.{IsMatch, HasNoMatch};
+ghost use Rattle.law_match.specs.Directed.{IsEqnOf};
+ghost use Rattle.law_proof.specs.Log.{AllKept, IsFounded, equations_in, eqn_of};
+ghost use Rattle.law_rewrite.specs.Rewriting.{IsIndexOf, IsRewriting};
+
+use super::chains::{add_back, add_steps, same_place, turned};
+use law_bank::Head;
+use law_index::RuleIndex;
+use law_match::{directed, matches};
+use law_pairs::Pair;
+use law_proof::{Chain, Kept, ProofLog, Step};
+use law_rewrite::normal;
+use law_sig::{NoMemory, Seq, SymId};
+use law_term::{Eqn, Pos, Subst, Term, TermBank, compare_k, term_at};
+use std::cmp::Ordering;
+
+/// Two terms as the arguments of a symbol. Such a term stands for both, whatever the symbol.
+fn both<'a>(
+    bank: &mut TermBank<'a>,
+    symbol: SymId,
+    left: Term<'a>,
+    right: Term<'a>,
+) -> Result<Term<'a>, NoMemory> {
+    bank.intern(Head::Sym(symbol), &[left, right])
+}
+
+/// The bindings of exactly the variables of both sides of an equation by which they are these two terms.
+fn instance<'a>(
+    bank: &mut TermBank<'a>,
+    symbol: SymId,
+    eqn: Eqn<'a>,
+    left: Term<'a>,
+    right: Term<'a>,
+) -> Result<Option<Subst<'a>>, NoMemory> {
+    let pattern = both(bank, symbol, eqn.left, eqn.right)?;
+    let term = both(bank, symbol, left, right)?;
+    matches(bank, pattern, term)
+}
+
+/// The step from the peak to the left backwards, and then the one from the peak to the right.
+fn through_peak<'a>(
+    bank: &mut TermBank<'a>,
+    log: &ProofLog<'a>,
+    symbol: SymId,
+    pair: &Pair<'a>,
+) -> Result<Seq<Step<'a>>, NoMemory> {
+    let (Some(outer), Some(inner)) = (log.get(pair.name.left), log.get(pair.name.right)) else {
+        unreachable!()
+    };
+    let outer = directed(outer.eqn(), pair.name.left_dir);
+    let inner = directed(inner.eqn(), pair.name.right_dir);
+    let (Some(from), Some(to)) = (
+        term_at(pair.peak, &pair.name.pos),
+        term_at(pair.left, &pair.name.pos),
+    ) else {
+        unreachable!()
+    };
+    let Some(at_place) = instance(bank, symbol, inner, from, to)? else {
+        unreachable!()
+    };
+    let Some(at_root) = instance(bank, symbol, outer, pair.peak, pair.right)? else {
+        unreachable!()
+    };
+    let mut steps = Seq::new(bank.alloc());
+    steps.push(Step {
+        pos: same_place(bank.alloc(), &pair.name.pos)?,
+        eq: pair.name.right,
+        dir: turned(pair.name.right_dir),
+        subst: at_place,
+    })?;
+    steps.push(Step {
+        pos: Pos::new(bank.alloc()),
+        eq: pair.name.left,
+        dir: pair.name.left_dir,
+        subst: at_root,
+    })?;
+    Ok(steps)
+}
+
+/// The equation of two terms with their variables renumbered, proved by steps from the first to the second, or from the second to the
+/// first.
+fn proved<'a>(
+    bank: &mut TermBank<'a>,
+    symbol: SymId,
+    left: Term<'a>,
+    right: Term<'a>,
+    steps: &[Step<'a>],
+    is_back: bool,
+) -> Result<Kept<'a>, NoMemory> {
+    let eqn = bank.tidy(left, right)?;
+    let sides = Eqn { left, right };
+    let Some(numbers) = instance(bank, symbol, sides, eqn.left, eqn.right)? else {
+        unreachable!()
+    };
+    let mut made = Seq::new(bank.alloc());
+    if is_back {
+        add_back(bank, &mut made, steps, &numbers)?;
+    } else {
+        add_steps(bank, &mut made, steps, &numbers)?;
+    }
+    let chain = Chain {
+        from: eqn.left,
+        steps: made,
+        to: eqn.right,
+    };
+    Ok(Kept::Lemma(eqn, chain))
+}
+
+/// The lemma of a pair: its left and its right are normalised, and where the results differ they are the sides of the lemma, the
+/// greater one in K on the left, with their variables renumbered. Its chain goes through the peak. `None` exactly where the results
+/// are the same.
+pub fn lemma<'a>(
+    bank: &mut TermBank<'a>,
+    log: &ProofLog<'a>,
+    index: &RuleIndex<'a>,
+    pair: &Pair<'a>,
+) -> Result<Option<Kept<'a>>, NoMemory> {
+    let (left, to_left) = normal(bank, log, index, pair.left)?;
+    let (right, to_right) = normal(bank, log, index, pair.right)?;
+    bank.shared();
+    if left.id == right.id {
+        return Ok(None);
+    }
+    let Head::Sym(symbol) = pair.peak.head else {
+        unreachable!()
+    };
+    let peak = through_peak(bank, log, symbol, pair)?;
+    let none = Subst::new(bank.alloc());
+    let mut steps = Seq::new(bank.alloc());
+    add_back(bank, &mut steps, to_left.steps.as_slice(), &none)?;
+    add_steps(bank, &mut steps, peak.as_slice(), &none)?;
+    add_steps(bank, &mut steps, to_right.steps.as_slice(), &none)?;
+    let found = match compare_k(left, right) {
+        Ordering::Less => proved(bank, symbol, right, left, steps.as_slice(), true)?,
+        Ordering::Equal => proved(bank, symbol, left, right, steps.as_slice(), false)?,
+        Ordering::Greater => proved(bank, symbol, left, right, steps.as_slice(), false)?,
+    };
+    Ok(Some(found))
+}
