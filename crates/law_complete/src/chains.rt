@@ -1,10 +1,9 @@
-ghost use Rattle.std.specs.Prelude.{◌≡◌, ◌++◌, map, IfOk, OnOk};
-ghost use Rattle.law_sig.specs.Lists.{Each};
-ghost use Rattle.law_rewriting.specs.Steps.{backwards, turned, turned_dir};
+ghost use Rattle.std.specs.Prelude.{◌≡◌, [], ◌∷◌, ◌++◌, map, IfOk, OnOk};
+ghost use Rattle.law_rewriting.specs.Steps.{backwards, turned_dir};
 ghost use Rattle.law_bank.specs.Bank.{Grows};
-ghost use Rattle.law_bank.specs.Bindings.{AllBound, subst_of};
+ghost use Rattle.law_bank.specs.Bindings.{AllBound, AreRising, binds_of, subst_of};
 ghost use Rattle.law_proof.specs.Log.{step_of, steps_of};
-ghost use Rattle.law_complete.specs.Chains.{put_step, put_steps, put_term, AllStepsOf, IsStepOf};
+ghost use Rattle.law_complete.specs.Chains.{put_bind, put_step, put_steps, in_dir, IsStepOf, AllStepsOf};
 
 use law_proof::Step;
 use law_sig::{NoMemory, Seq};
@@ -36,11 +35,12 @@ pub fn same_place(alloc: Global, place: &Pos) -> Result<Pos, NoMemory>
 fn put<'a>(
     bank: &mut TermBank<'a>,
     subst: &Subst<'a>,
-    map: &Subst<'a>,
+    numbers: &Subst<'a>,
 ) -> Result<Subst<'a>, NoMemory>
     requires bound { AllBound bank.old subst.now }
-    requires map { AllBound bank.old map.now }
-    ensures put { IfOk result (λ s. binds_of s ≡ map (put_term (subst_of map.now)) (binds_of subst.now)) }
+    requires rising { AreRising subst.now }
+    requires numbers { AllBound bank.old numbers.now }
+    ensures put { IfOk result (λ s. binds_of s ≡ map (put_bind (subst_of numbers.now)) (binds_of subst.now)) }
     ensures held { IfOk result (λ s. AllBound bank.new s) }
     ensures grows { Grows bank.old bank.new }
 {
@@ -48,7 +48,7 @@ fn put<'a>(
     let mut made = Subst::new(bank.alloc());
     for at in 0..binds.len() {
         let binding = binds[at];
-        let term = bank.subst(binding.2, map)?;
+        let term = bank.subst(binding.2, numbers)?;
         made.bind(binding.0, binding.1, term)?;
     }
     Ok(made)
@@ -60,17 +60,17 @@ fn add<'a>(
     out: &mut Seq<Step<'a>>,
     step: &Step<'a>,
     dir: Dir,
-    map: &Subst<'a>,
+    numbers: &Subst<'a>,
 ) -> Result<(), NoMemory>
     requires step { IsStepOf bank.old step.now }
-    requires map { AllBound bank.old map.now }
+    requires numbers { AllBound bank.old numbers.now }
     requires out { AllStepsOf bank.old out.old }
-    ensures added { OnOk result (IsAdded (subst_of map.now) step.now dir out.old out.new) }
+    ensures added { OnOk result (steps_of out.new ≡ steps_of out.old ++ in_dir dir (put_step (subst_of numbers.now) (step_of step.now)) ∷ []) }
     ensures held { OnOk result (AllStepsOf bank.new out.new) }
     ensures grows { Grows bank.old bank.new }
 {
     let pos = same_place(bank.alloc(), &step.pos)?;
-    let subst = put(bank, &step.subst, map)?;
+    let subst = put(bank, &step.subst, numbers)?;
     out.push(Step {
         pos,
         eq: step.eq,
@@ -84,17 +84,17 @@ pub fn add_steps<'a>(
     bank: &mut TermBank<'a>,
     out: &mut Seq<Step<'a>>,
     steps: &[Step<'a>],
-    map: &Subst<'a>,
+    numbers: &Subst<'a>,
 ) -> Result<(), NoMemory>
     requires steps { AllStepsOf bank.old steps.now }
-    requires map { AllBound bank.old map.now }
+    requires numbers { AllBound bank.old numbers.now }
     requires out { AllStepsOf bank.old out.old }
-    ensures added { OnOk result (steps_of out.new ≡ steps_of out.old ++ put_steps (subst_of map.now) (steps_of steps.now)) }
+    ensures added { OnOk result (steps_of out.new ≡ steps_of out.old ++ put_steps (subst_of numbers.now) (steps_of steps.now)) }
     ensures held { OnOk result (AllStepsOf bank.new out.new) }
     ensures grows { Grows bank.old bank.new }
 {
     for step in steps {
-        add(bank, out, step, step.dir, map)?;
+        add(bank, out, step, step.dir, numbers)?;
     }
     Ok(())
 }
@@ -104,18 +104,18 @@ pub fn add_back<'a>(
     bank: &mut TermBank<'a>,
     out: &mut Seq<Step<'a>>,
     steps: &[Step<'a>],
-    map: &Subst<'a>,
+    numbers: &Subst<'a>,
 ) -> Result<(), NoMemory>
     requires steps { AllStepsOf bank.old steps.now }
-    requires map { AllBound bank.old map.now }
+    requires numbers { AllBound bank.old numbers.now }
     requires out { AllStepsOf bank.old out.old }
-    ensures added { OnOk result (steps_of out.new ≡ steps_of out.old ++ backwards (put_steps (subst_of map.now) (steps_of steps.now))) }
+    ensures added { OnOk result (steps_of out.new ≡ steps_of out.old ++ backwards (put_steps (subst_of numbers.now) (steps_of steps.now))) }
     ensures held { OnOk result (AllStepsOf bank.new out.new) }
     ensures grows { Grows bank.old bank.new }
 {
     for behind in 0..steps.len() {
         let step = &steps[steps.len() - 1 - behind];
-        add(bank, out, step, turned(step.dir), map)?;
+        add(bank, out, step, turned(step.dir), numbers)?;
     }
     Ok(())
 }

@@ -1,13 +1,20 @@
-ghost use Rattle.std.specs.Prelude.{◌≡◌, ◌≤◌, IfOk, OnOk, MatchOption};
+ghost use Rattle.std.specs.Prelude.{◌≡◌, ◌≤◌, [], ◌∷◌, if◌then◌else◌, IfOk, MatchOption};
 ghost use Rattle.law_sig.specs.declared.parts.SigParts.{SigParts};
+ghost use Rattle.law_sig.specs.declared.tree.Tree.TheVariants.{App};
+ghost use Rattle.law_rewriting.specs.Completion.{tidied, lemma};
 ghost use Rattle.law_bank.specs.declared.node.Node.{out-Node};
 ghost use Rattle.law_bank.specs.Terms.{tree_of};
 ghost use Rattle.law_bank.specs.Bank.{Terms, IsOf, Grows, sorts_by};
-ghost use Rattle.law_bank.specs.Bindings.{AllBound};
-ghost use Rattle.law_rewriting.specs.Unifiers.{IsMatch, HasNoMatch};
-ghost use Rattle.law_match.specs.Directed.{IsEqnOf};
-ghost use Rattle.law_proof.specs.Log.{AllKept, IsFounded, equations_in, eqn_of};
-ghost use Rattle.law_rewrite.specs.Rewriting.{IsIndexOf, IsRewriting};
+ghost use Rattle.law_bank.specs.Bindings.{AllBound, AreRising, binds_of};
+ghost use Rattle.law_match.specs.Directed.{equation_of, IsEqnOf};
+ghost use Rattle.law_index.specs.Index.{rules_in};
+ghost use Rattle.law_proof.specs.Log.{AllKept, IsFounded, equations_in, eqn_of, kept_of, steps_of};
+ghost use Rattle.law_rewrite.specs.Rewriting.{IsIndexOf, SuitsEqn};
+ghost use Rattle.law_pairs.specs.Overlapping.{AreLight, SuitsLog};
+ghost use Rattle.law_pairs.specs.Walk.{named, IsPairOf};
+ghost use Rattle.law_complete.specs.Chains.{AllStepsOf};
+ghost use Rattle.law_complete.specs.Learning.{IsInstance, IsNoInstance, IsPairIn, Lead, Shows};
+ghost use Rattle.law_complete.specs.States.{WeighAtMostFour, IsSmallPair};
 
 use super::chains::{add_back, add_steps, same_place, turned};
 use law_bank::Head;
@@ -26,7 +33,13 @@ fn both<'a>(
     symbol: SymId,
     left: Term<'a>,
     right: Term<'a>,
-) -> Result<Term<'a>, NoMemory> {
+) -> Result<Term<'a>, NoMemory>
+    requires left { IsOf bank.old left.now }
+    requires right { IsOf bank.old right.now }
+    ensures tree { IfOk result (λ t. tree_of t.now ≡ App symbol (tree_of left.now ∷ tree_of right.now ∷ [])) }
+    ensures held { IfOk result (λ t. IsOf bank.new t.now) }
+    ensures grows { Grows bank.old bank.new }
+{
     bank.intern(Head::Sym(symbol), &[left, right])
 }
 
@@ -37,7 +50,16 @@ fn instance<'a>(
     eqn: Eqn<'a>,
     left: Term<'a>,
     right: Term<'a>,
-) -> Result<Option<Subst<'a>>, NoMemory> {
+) -> Result<Option<Subst<'a>>, NoMemory>
+    requires eqn { IsEqnOf bank.old eqn }
+    requires left { IsOf bank.old left.now }
+    requires right { IsOf bank.old right.now }
+    ensures found { IfOk result (λ o. MatchOption o (IsNoInstance (sorts_by bank.old.sorts) (equation_of eqn.entry) (tree_of left.now) (tree_of right.now))
+        (λ s. IsInstance (sorts_by bank.old.sorts) (equation_of eqn.entry) (tree_of left.now) (tree_of right.now) (binds_of s))) }
+    ensures held { IfOk result (λ o. MatchOption o (Unit {0}) (λ s. AllBound bank.new s)) }
+    ensures rising { IfOk result (λ o. MatchOption o (Unit {0}) (λ s. AreRising s)) }
+    ensures grows { Grows bank.old bank.new }
+{
     let pattern = both(bank, symbol, eqn.left, eqn.right)?;
     let term = both(bank, symbol, left, right)?;
     matches(bank, pattern, term)
@@ -49,7 +71,14 @@ fn through_peak<'a>(
     log: &ProofLog<'a>,
     symbol: SymId,
     pair: &Pair<'a>,
-) -> Result<Seq<Step<'a>>, NoMemory> {
+) -> Result<Seq<Step<'a>>, NoMemory>
+    requires log { AllKept bank.old log.now }
+    requires held { IsPairOf bank.old pair.now }
+    requires pair { IsPairIn bank.old log.now pair.now }
+    ensures leads { IfOk result (λ steps. Lead bank.old log.now (steps_of steps) (tree_of pair.now.left.now) (tree_of pair.now.right.now)) }
+    ensures held { IfOk result (AllStepsOf bank.new) }
+    ensures grows { Grows bank.old bank.new }
+{
     let (Some(outer), Some(inner)) = (log.get(pair.name.left), log.get(pair.name.right)) else {
         unreachable!()
     };
@@ -87,12 +116,23 @@ fn through_peak<'a>(
 /// first.
 fn proved<'a>(
     bank: &mut TermBank<'a>,
+    log: &ProofLog<'a>,
     symbol: SymId,
     left: Term<'a>,
     right: Term<'a>,
     steps: &[Step<'a>],
     is_back: bool,
-) -> Result<Kept<'a>, NoMemory> {
+) -> Result<Kept<'a>, NoMemory>
+    requires log { AllKept bank.old log.now }
+    requires left { IsOf bank.old left.now }
+    requires right { IsOf bank.old right.now }
+    requires steps { AllStepsOf bank.old steps.now }
+    requires leads { if is_back then Lead bank.old log.now (steps_of steps.now) (tree_of right.now) (tree_of left.now) else Lead bank.old log.now (steps_of steps.now) (tree_of left.now) (tree_of right.now) }
+    ensures is { IfOk result (λ k. kept_of k ≡ lemma (tidied (tree_of left.now) (tree_of right.now))) }
+    ensures founded { IfOk result (IsFounded (equations_in log.now)) }
+    ensures held { IfOk result (λ k. IsEqnOf bank.new (eqn_of k)) }
+    ensures grows { Grows bank.old bank.new }
+{
     let eqn = bank.tidy(left, right)?;
     let sides = Eqn { left, right };
     let Some(numbers) = instance(bank, symbol, sides, eqn.left, eqn.right)? else {
@@ -120,7 +160,20 @@ pub fn lemma<'a>(
     log: &ProofLog<'a>,
     index: &RuleIndex<'a>,
     pair: &Pair<'a>,
-) -> Result<Option<Kept<'a>>, NoMemory> {
+) -> Result<Option<Kept<'a>>, NoMemory>
+    requires log { AllKept bank.old log.now }
+    requires index { IsIndexOf log.now index.now }
+    requires weights { WeighAtMostFour bank.old }
+    requires held { IsPairOf bank.old pair.now }
+    requires small { IsSmallPair pair.now }
+    requires pair { IsPairIn bank.old log.now pair.now }
+    ensures shows { IfOk result (λ o. (parts : SigParts) → SuitsLog parts bank.old log.now → Shows parts (rules_in index.now) (named pair.now).pair o) }
+    ensures founded { IfOk result (λ o. MatchOption o (Unit {0}) (IsFounded (equations_in log.now))) }
+    ensures held { IfOk result (λ o. MatchOption o (Unit {0}) (λ k. IsEqnOf bank.new (eqn_of k))) }
+    ensures light { IfOk result (λ o. MatchOption o (Unit {0}) (λ k. AreLight (eqn_of k))) }
+    ensures suits { IfOk result (λ o. MatchOption o (Unit {0}) (λ k. (parts : SigParts) → SuitsLog parts bank.old log.now → SuitsEqn parts bank.new (eqn_of k))) }
+    ensures grows { Grows bank.old bank.new }
+{
     let (left, to_left) = normal(bank, log, index, pair.left)?;
     let (right, to_right) = normal(bank, log, index, pair.right)?;
     bank.shared();
@@ -137,9 +190,9 @@ pub fn lemma<'a>(
     add_steps(bank, &mut steps, peak.as_slice(), &none)?;
     add_steps(bank, &mut steps, to_right.steps.as_slice(), &none)?;
     let found = match compare_k(left, right) {
-        Ordering::Less => proved(bank, symbol, right, left, steps.as_slice(), true)?,
-        Ordering::Equal => proved(bank, symbol, left, right, steps.as_slice(), false)?,
-        Ordering::Greater => proved(bank, symbol, left, right, steps.as_slice(), false)?,
+        Ordering::Less => proved(bank, log, symbol, right, left, steps.as_slice(), true)?,
+        Ordering::Equal => proved(bank, log, symbol, left, right, steps.as_slice(), false)?,
+        Ordering::Greater => proved(bank, log, symbol, left, right, steps.as_slice(), false)?,
     };
     Ok(Some(found))
 }

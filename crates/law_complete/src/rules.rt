@@ -1,5 +1,7 @@
-ghost use Rattle.std.specs.Prelude.{◌≡◌, ◌≤◌, length, IsTrue, OnOk, ◌↔◌};
-ghost use Rattle.law_complete.specs.Upto.{AreUpto, IsLemma};
+ghost use Rattle.std.specs.Prelude.{◌≡◌, ◌↔◌, ◌<◌, ◌++◌, [], length, IsTrue, OnOk, OnErr};
+ghost use Rattle.law_sig.specs.Lists.{Each};
+ghost use Rattle.law_index.specs.Index.{Entry};
+ghost use Rattle.law_complete.specs.Upto.{AreUpto, IsLemma, entry_of};
 
 use law_index::RuleIndex;
 use law_proof::{EqId, Kept, ProofLog};
@@ -38,7 +40,13 @@ fn is_lemma(kept: &Kept<'_>) -> bool
 }
 
 /// Adds an equation, unless it is a lemma and lemmas are left out.
-fn add<'a>(rules: &mut Rules<'a>, number: EqId, kept: &Kept<'a>) -> Result<(), NoMemory> {
+fn add<'a>(rules: &mut Rules<'a>, number: EqId, kept: &Kept<'a>) -> Result<(), NoMemory>
+    requires { Each (λ (e : Entry). e.0.0 < number.0) rules.old.index }
+    ensures ok { OnOk result (rules.new.index ≡ rules.old.index ++ entry_of rules.old.with_lemmas number.0 kept.now) }
+    ensures err { OnErr result (rules.new.index ≡ rules.old.index) }
+    ensures lemmas { rules.new.with_lemmas ≡ rules.old.with_lemmas }
+    ensures upto { rules.new.upto ≡ rules.old.upto }
+{
     if is_lemma(kept) && !rules.with_lemmas {
         return Ok(());
     }
