@@ -27,6 +27,8 @@ mod run;
 #[cfg(test)]
 mod samples;
 #[cfg(test)]
+mod schemas;
+#[cfg(test)]
 mod searches;
 #[cfg(test)]
 mod signatures;

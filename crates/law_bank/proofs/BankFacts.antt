@@ -1,13 +1,15 @@
 -- What the terms of a bank have in common.
 use Rattle.std.proofs.Common.{◌≡◌, ℕ, zero, suc, List, [], ◌∷◌, ◌++◌, map, ap, sym, ◌∙◌, refl, subst, Some, append_assoc, append-nil}
-use Rattle.std.specs.List.{slice_get}
+use Rattle.std.specs.List.{slice_get, slice_index_or}
 use Rattle.std.proofs.lemmas.Simd.{map-map}
 use denote.Bor.{Bor}
 use Rattle.law_sig.specs.Lists.{Each}
 use Rattle.law_sig.specs.Trees.{node_count}
+use Rattle.law_sig.specs.Signature.{result_of}
 use Rattle.law_sig.specs.Tests.{weight}
 use Rattle.law_sig.specs.declared.parts.SigParts.{SigParts}
-use Rattle.law_rewriting.specs.Heads.{head_sort}
+use Rattle.law_sig.specs.declared.parts.Sym.{Sym as Symbol}
+use Rattle.law_rewriting.specs.Heads.{head_sort, result_or_first}
 use Rattle.law_sig.specs.declared.tree.SortId.{SortId}
 use Rattle.law_sig.specs.declared.tree.SymId.{SymId}
 use Rattle.law_sig.specs.declared.tree.Tree.{Tree}
@@ -178,3 +180,8 @@ weight_is bank parts n h e = (here bank n h).weight parts e ∙ ap (λ m. capped
 
 pub sort_is : (bank : Terms) (n : Node) → IsOf bank n → (out-Node n).sort ≡ head_sort (sorts_by bank.sorts) (tree_of n)
 sort_is bank n h = (here bank n h).sort ∙ ap (λ m. head_sort (sorts_by bank.sorts) (tree_of m)) (roll-out-Node n)
+
+pub sorts_are : (symbols : List Symbol) (n : ℕ) → result_or_first (slice_get symbols n) ≡ slice_index_or (map result_of symbols) n (record { 0 = 0 })
+sorts_are [] n = refl
+sorts_are (x ∷ xs) zero = refl
+sorts_are (x ∷ xs) (suc n) = sorts_are xs n

@@ -1,11 +1,11 @@
 -- The Knuth-Bendix order of two terms of a bank.
-use Rattle.std.proofs.Common.{◌≡◌, ℕ, ◌+◌, ◌<◌, ◌≤◌, ◌⊎◌, inl, inr, ◌↔◌, Bool, true, false, ◌==◌, if◌then◌else◌, List, [], ◌∷◌, ◌++◌, length, map, Option, Some, None, Ordering, Less, Equal, Greater, nat_cmp, ap, ap₂, sym, ◌∙◌, refl, subst, subst₂, arith}
+use Rattle.std.proofs.Common.{◌≡◌, ℕ, ◌<◌, ◌⊎◌, inl, inr, ◌↔◌, Bool, true, false, ◌==◌, if◌then◌else◌, List, [], ◌∷◌, ◌++◌, Some, None, Ordering, Less, Equal, Greater, nat_cmp, ap, sym, ◌∙◌, refl, subst, subst₂, arith}
 use Rattle.std.specs.Ordering.{ordering_then, MatchOrdering}
 use Rattle.std.proofs.lemmas.Bool.{eqb-true, eq-eqb}
 use Rattle.std.proofs.lemmas.Cmp.{ranked}
 use denote.Bor.{Bor}
 use Rattle.law_sig.specs.Lists.{In, Each}
-use Rattle.law_sig.specs.Lists.In.{here, there}
+use Rattle.law_sig.specs.Lists.In.{here}
 use Rattle.law_sig.specs.Tests.{weight}
 use Rattle.law_sig.specs.Kbo.{HasVarsOf, Kbo}
 use Rattle.law_sig.specs.Kbo.Kbo.{heavier, symbol, argument}
@@ -22,7 +22,7 @@ use Rattle.law_bank.specs.declared.node.Head.{Head}
 use Rattle.law_bank.specs.declared.node.Head.TheVariants.{Var, Sym}
 use Rattle.law_bank.specs.declared.node.Node.{Node, out-Node}
 use Rattle.law_bank.specs.Terms.{tree_at, tree_of, trees_of, id_of}
-use Rattle.law_bank.specs.Bank.{Terms, IsOf, AllOf, IsShared}
+use Rattle.law_bank.specs.Bank.{Terms, AllOf, IsShared}
 use Rattle.law_bank.specs.Orders.{AreComparable, first_other, symbols_cmp, kbo_cmp}
 use Rattle.law_bank.specs.Laws.{KboIsDecided}
 use Rattle.law_bank.proofs.BankFacts.{tree_of-out, below, same_tree, same_id}

@@ -1,13 +1,14 @@
 -- K of two terms of a bank.
-use Rattle.std.proofs.Common.{◌≡◌, ℕ, ◌+◌, ◌-◌, ◌^◌, ◌<◌, ◌≤◌, min, Bool, true, false, ◌==◌, if◌then◌else◌, List, [], ◌∷◌, length, map, Option, Some, None, Ordering, Less, Equal, Greater, nat_cmp, ap, ap₂, sym, ◌∙◌, refl, subst, arith}
-use Rattle.std.specs.Ordering.{ordering_then, ordering_reverse}
+use Rattle.std.proofs.Common.{◌≡◌, ℕ, suc, ◌-◌, ◌^◌, ◌<◌, ◌≤◌, Bool, true, false, ◌==◌, if◌then◌else◌, List, [], ◌∷◌, length, map, Some, None, Ordering, Less, Equal, Greater, nat_cmp, ap, ap₂, sym, ◌∙◌, refl, subst, arith}
+use Rattle.std.specs.Ordering.{ordering_then, ordering_reverse, MatchOrdering}
+use Rattle.std.specs.Cmp.{nat_cmp_is}
 use Rattle.std.specs.Cmp.Lexicographic.{slice_cmp}
 use Rattle.std.proofs.lemmas.Bool.{eqb-true, eq-eqb}
+use Rattle.std.proofs.lemmas.Cmp.{ranked}
 use denote.Bor.{Bor}
-use Rattle.law_sig.specs.Lists.{In, Each, total}
+use Rattle.law_sig.specs.Lists.{In, total}
 use Rattle.law_sig.specs.Lists.In.{here, there}
 use Rattle.law_sig.specs.Trees.{schema_of}
-use Rattle.law_sig.specs.Signature.{weight_at}
 use Rattle.law_sig.specs.Tests.{weight}
 use Rattle.law_sig.specs.Order.{compare_k}
 use Rattle.law_sig.specs.declared.tree.Tree.{Tree}
@@ -17,7 +18,7 @@ use Rattle.law_sig.specs.declared.parts.SigParts.{SigParts}
 use Rattle.law_laws.specs.Orders.{compare_heads}
 use Rattle.law_laws.proofs.BodyFacts.{some_is}
 use Rattle.law_laws.proofs.ListFacts.{of_each}
-use Rattle.law_laws.proofs.TreeFacts.{weight-Var, weight-App, schema-Var, schema-App}
+use Rattle.law_laws.proofs.TreeFacts.{weight-App, schema-Var, schema-App}
 use Rattle.law_laws.proofs.Spelled.{k_spelled}
 use Rattle.law_laws.proofs.Orders.{compare_k_total, one_tree_k, schema_weight}
 use Rattle.law_bank.specs.declared.node.Head.{Head}
@@ -45,6 +46,15 @@ then_decided : (o p : Ordering) → (o ≡ Equal → ⊥) → ordering_then o p 
 then_decided Less p n = refl
 then_decided Equal p n = absurd (n refl)
 then_decided Greater p n = refl
+
+-- one more on both sides compares as before
+more_both : (n m : ℕ) → nat_cmp n m ≡ nat_cmp (suc n) (suc m)
+more_both n m = nat_cmp_is (suc n) (suc m) (nat_cmp n m) (by (nat_cmp n m) (ranked n m (nat_cmp n m) refl))
+  where
+    by : (p : Ordering) → MatchOrdering p (n < m) (n ≡ m) (m < n) → MatchOrdering p (suc n < suc m) (suc n ≡ suc m) (suc m < suc n)
+    by Less h = omega (arith, h)
+    by Equal h = ap suc h
+    by Greater h = omega (arith, h)
 
 -- what is its own reverse is equal
 own_reverse : (o : Ordering) → o ≡ ordering_reverse o → o ≡ Equal
@@ -108,14 +118,14 @@ module _ (bank : Terms) (parts : SigParts) (shared : IsShared bank) where
 
   args_counted : (xs ys : List (Bor Node)) → AllOf bank xs → AllOf bank ys → first_other xs ys ≡ None → rows_cmp xs ys ≡ nat_cmp (length xs) (length ys)
   args_counted [] [] h k e = refl
-  args_counted [] (y ∷ ys) h k e = refl
-  args_counted (x ∷ xs) [] h k e = refl
+  args_counted [] (y ∷ ys) h k e = nat_cmp_is 0 (length (y ∷ ys)) Less (omega arith)
+  args_counted (x ∷ xs) [] h k e = nat_cmp_is (length (x ∷ xs)) 0 Greater (omega arith)
   args_counted (x ∷ xs) (y ∷ ys) h k e = by (args_counted xs ys h.1 k.1) (id_of x.now == id_of y.now) refl e
     where
       by : (first_other xs ys ≡ None → rows_cmp xs ys ≡ nat_cmp (length xs) (length ys)) → (c : Bool) → (id_of x.now == id_of y.now) ≡ c
           → (if c then first_other xs ys else Some (x, y)) ≡ None
           → ordering_then (compare_k parts (tree_of x.now) (tree_of y.now)) (rows_cmp xs ys) ≡ nat_cmp (length (x ∷ xs)) (length (y ∷ ys))
-      by later true q e = ap (λ o. ordering_then o (rows_cmp xs ys)) (k_same x.now y.now h.0 k.0 q) ∙ later e
+      by later true q e = ap (λ o. ordering_then o (rows_cmp xs ys)) (k_same x.now y.now h.0 k.0 q) ∙ later e ∙ more_both (length xs) (length ys)
       by later false q e = cc
 
 -- The roots

@@ -1,19 +1,22 @@
 -- Laws of banks, of bindings, and of the orders of terms of a bank.
-use Rattle.std.specs.Prelude.{◌≡◌, ◌↔◌, ℕ, List, length, map, Option, None, Some, if◌then◌else◌}
+use Rattle.std.specs.Prelude.{◌≡◌, ◌↔◌, ℕ, List, length, map, None, Some, if◌then◌else◌}
 use Rattle.std.specs.declared.cmp.Ordering.{Ordering}
 use Rattle.std.specs.declared.cmp.Ordering.TheVariants.{Less, Equal, Greater}
 use Rattle.std.specs.Ordering.{nat_cmp, ordering_then}
 use Rattle.std.specs.Cmp.Lexicographic.{slice_cmp}
 use denote.Bor.{Bor}
 use Rattle.law_sig.specs.Trees.{schema_of}
+use Rattle.law_sig.specs.Signature.{result_of}
 use Rattle.law_sig.specs.Chains.{is_bound}
 use Rattle.law_sig.specs.Order.{compare_k}
 use Rattle.law_sig.specs.Kbo.{HasVarsOf, Kbo}
 use Rattle.law_sig.specs.declared.tree.SortId.{SortId}
+use Rattle.law_sig.specs.declared.tree.SymId.{SymId}
 use Rattle.law_sig.specs.declared.parts.SigParts.{SigParts}
 use Rattle.law_bank.specs.declared.node.Node.{Node, out-Node}
 use Rattle.law_bank.specs.Terms.{tree_of, trees_of, id_of}
-use Rattle.law_bank.specs.Bank.{Terms, IsOf, IsShared, Grows}
+use Rattle.law_rewriting.specs.Heads.{sorts_in}
+use Rattle.law_bank.specs.Bank.{Terms, IsOf, IsShared, Grows, sorts_by}
 use Rattle.law_bank.specs.Bindings.{Binding, bind_of, subst_of, AreRising, with_binding}
 use Rattle.law_bank.specs.Orders.{AreComparable, first_other, roots_cmp, flat_cmp, kbo_cmp}
 
@@ -25,6 +28,10 @@ SameIdSameTree = (bank : Terms) (m n : Node) → IsOf bank m → IsOf bank n →
 
 abbrev pub SameTreeSameId : Type 0
 SameTreeSameId = (bank : Terms) (m n : Node) → IsShared bank → IsOf bank m → IsOf bank n → tree_of m ≡ tree_of n → id_of m ≡ id_of n
+
+-- a bank whose result sorts are those of a signature has the signature's sorts
+abbrev pub SortsOfSignature : Type 0
+SortsOfSignature = (parts : SigParts) (f : SymId) → sorts_in parts f ≡ sorts_by (map result_of parts.symbols) f
 
 abbrev pub BindingIsPut : Type 0
 BindingIsPut = (b : Binding) (bindings : List Binding) (sort : SortId) (index : ℕ) → AreRising bindings

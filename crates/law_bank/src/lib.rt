@@ -4,15 +4,17 @@
 
 mod node;
 
-ghost use Rattle.law_bank.specs.Laws.{TermsStay, SameIdSameTree, SameTreeSameId, BindingIsPut, BindingsRise, KDecided, KboDecided, ArgumentsAreComparable};
+ghost use Rattle.law_bank.specs.Laws.{TermsStay, SameIdSameTree, SameTreeSameId, SortsOfSignature, BindingIsPut, BindingsRise, KDecided, KboDecided, ArgumentsAreComparable};
 
 pub use node::{Head, Node, Term};
 
-/// A term of a bank stays one while the bank grows; terms of one bank have the same id exactly where they have the same tree.
+/// A term of a bank stays one while the bank grows; terms of one bank have the same id exactly where they have the same tree;
+/// result sorts that a signature gives are the signature's.
 pub fn bank_laws()
     ensures stays { TermsStay }
     ensures tree { SameIdSameTree }
     ensures id { SameTreeSameId }
+    ensures sorts { SortsOfSignature }
 {}
 
 /// A binding that is put among others changes what its variable stands for and nothing else, and keeps them in order.

@@ -7,5 +7,5 @@ mod error;
 mod steps;
 mod work;
 
-pub use application::apply;
+pub use application::{Buffers, apply, apply_with};
 pub use error::EvalErr;

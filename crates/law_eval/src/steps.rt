@@ -12,7 +12,7 @@ ghost use Rattle.law_eval.specs.Took.{on_top, IsFrameOf, IsSound, IsBuilt, Lacks
 
 use super::choose::choose;
 use super::error::EvalErr;
-use super::work::{Task, Work};
+use super::work::{Task, Work, give_back};
 use law_sig::{Body, Fun, Sig, Sym, SymId};
 use law_value::{ValueBank, ValueId};
 use std::alloc::Global;
@@ -78,6 +78,7 @@ fn build(bank: &mut ValueBank, work: &mut Work<'_>, sym: SymId, count: u32) -> R
     let row = work.take_row(count)?;
     work.pay()?;
     let value = bank.make(sym, row.as_slice())?;
+    give_back(&mut work.spare, row);
     work.add(value)
 }
 

@@ -31,38 +31,77 @@ pub struct Frame {
 }
 
 /// An evaluation under way. The last of each list is the one that comes next: the task that is done next, the row that
-/// takes the next value, the function that runs. `left` is what is left of the budget.
+/// takes the next value, the function that runs. `left` is what is left of the budget. Rows that were given back are `spare`;
+/// what stands in them counts for nothing.
 #[derive(Drop)]
 pub struct Work<'s> {
     pub tasks: Vec<Task<'s>>,
     pub rows: Vec<Vec<ValueId>>,
     pub frames: Vec<Frame>,
     pub left: u64,
+    pub spare: Vec<Vec<ValueId>>,
+}
+
+/// An empty row: one that was given back, if there is one.
+fn empty_row(alloc: Global, spare: &mut Vec<Vec<ValueId>>) -> Vec<ValueId>
+    ensures { result.items ≡ [] }
+{
+    let Some(mut row) = spare.pop() else {
+        return Vec::new(alloc);
+    };
+    row.clear();
+    row
+}
+
+/// Gives a row back. Without memory for that, it goes.
+pub fn give_back(spare: &mut Vec<Vec<ValueId>>, row: Vec<ValueId>) {
+    let _ = spare.push(row);
+}
+
+/// Takes all rows away, and gives the last one back: after an answer there is no other.
+fn take_all(rows: &mut Vec<Vec<ValueId>>, spare: &mut Vec<Vec<ValueId>>)
+    ensures { rows.new.items ≡ [] }
+{
+    if let Some(row) = rows.pop() {
+        give_back(spare, row);
+    }
+    rows.clear();
 }
 
 impl<'s> Work<'s> {
-    /// The work of applying a symbol to these values.
-    pub fn start(
+    /// Nothing to do. It takes no memory.
+    pub fn new(alloc: Global) -> Work<'s> {
+        Work {
+            tasks: Vec::new(alloc),
+            rows: Vec::new(alloc),
+            frames: Vec::new(alloc),
+            left: 0,
+            spare: Vec::new(alloc),
+        }
+    }
+
+    /// The work of applying a symbol to these values, and nothing else, in the room of what was done before.
+    pub fn begin(
+        &mut self,
         alloc: Global,
         sym: SymId,
         count: u32,
         args: &[ValueId],
         budget: u64,
-    ) -> Result<Work<'s>, EvalErr>
-        ensures ok { IfOk result (λ work. ids_of work ≡ record { tasks = apply sym count ∷ []; rows = args.now ∷ ([] ∷ []); frames = []; left = budget }) }
+    ) -> Result<(), EvalErr>
+        ensures ok { OnOk result (ids_of self.new ≡ record { tasks = apply sym count ∷ []; rows = args.now ∷ ([] ∷ []); frames = []; left = budget }) }
         ensures over { IsErrOf result EvalErr.Over → ⊥ }
     {
-        let mut tasks = Vec::new(alloc);
-        tasks.push(Task::Apply(sym, count))?;
-        let mut rows = Vec::new(alloc);
-        rows.push(Vec::new(alloc))?;
-        rows.push(Vec::from_slice(alloc, args)?)?;
-        Ok(Work {
-            tasks,
-            rows,
-            frames: Vec::new(alloc),
-            left: budget,
-        })
+        take_all(&mut self.rows, &mut self.spare);
+        self.rows.push(empty_row(alloc, &mut self.spare))?;
+        let mut row = empty_row(alloc, &mut self.spare);
+        row.extend_from_slice(args)?;
+        self.rows.push(row)?;
+        self.tasks.clear();
+        self.tasks.push(Task::Apply(sym, count))?;
+        self.frames.clear();
+        self.left = budget;
+        Ok(())
     }
 
     /// Adds a value to the last row.
@@ -114,7 +153,7 @@ impl<'s> Work<'s> {
         ensures ok { OnOk result (ids_of self.new ≡ record (ids_of self.old) { tasks = each bodies.now ∷ (todo_of next.entry ∷ (ids_of self.old).tasks); rows = [] ∷ (ids_of self.old).rows }) }
         ensures over { IsErrOf result EvalErr.Over → ⊥ }
     {
-        self.rows.push(Vec::new(alloc))?;
+        self.rows.push(empty_row(alloc, &mut self.spare))?;
         self.tasks.push(next)?;
         self.tasks.push(Task::Each(bodies))?;
         Ok(())
@@ -141,9 +180,11 @@ impl<'s> Work<'s> {
         ensures ok { OnOk result (IsLeft (ids_of self.old) (ids_of self.new)) }
         ensures over { IsErrOf result EvalErr.Over → (ids_of self.old).frames ≡ [] }
     {
-        let Some(_frame) = self.frames.pop() else {
+        let Some(frame) = self.frames.pop() else {
             return Err(EvalErr::Over);
         };
+        let Frame { matched: _, params } = frame;
+        give_back(&mut self.spare, params);
         Ok(())
     }
 

@@ -20,20 +20,20 @@ use Rattle.law_test.specs.Words.{same_items, Finds}
 use Rattle.law_testing.proofs.BothFacts.{both_map}
 use Rattle.law_explore.specs.declared.refusal.ExploreErr.{ExploreErr}
 use Rattle.law_explore.specs.Values.{IsVector, HasVector, HasArgVectors}
-use Rattle.law_explore.specs.Classes.{AreDistinct, Extends, IsRemembered, Remembers, IsLearned}
+use Rattle.law_explore.specs.Classes.{AreDistinct, AddsVectors, IsRemembered, Remembers, IsLearned}
 use Rattle.law_explore.proofs.LawFacts.{some_is}
 use Rattle.law_explore.proofs.VectorFacts.{arg_values, vector_stays}
 
 -- Vectors
 
-pub extends_not : (a : List (Vec ℕ Global)) → Extends a a
+pub extends_not : (a : List (Vec ℕ Global)) → AddsVectors a a
 extends_not a = ([], sym (append-nil a))
 
 pub none_distinct : AreDistinct []
 none_distinct a b v w v_is w_is same = cc
 
 -- a class keeps its vector while the bank grows and vectors are added
-class_stays : (parts : SigParts) (old bank : List Tree) (before vectors : List (Vec ℕ Global)) (t : Tree) (class : ℕ) → Grows old bank → Extends before vectors
+class_stays : (parts : SigParts) (old bank : List Tree) (before vectors : List (Vec ℕ Global)) (t : Tree) (class : ℕ) → Grows old bank → AddsVectors before vectors
     → HasVector parts old before t class → HasVector parts bank vectors t class
 class_stays parts old bank before vectors t class grows more has = record {
   vector = has.vector;
@@ -41,12 +41,12 @@ class_stays parts old bank before vectors t class grows more has = record {
   is = vector_stays parts old bank t has.vector.items grows has.is;
 }
 
-pub classes_stay : (parts : SigParts) (old bank : List Tree) (before vectors : List (Vec ℕ Global)) → Grows old bank → Extends before vectors → (terms : List Tree) (classes : List ℕ)
+pub classes_stay : (parts : SigParts) (old bank : List Tree) (before vectors : List (Vec ℕ Global)) → Grows old bank → AddsVectors before vectors → (terms : List Tree) (classes : List ℕ)
     → Both (HasVector parts old before) terms classes → Both (HasVector parts bank vectors) terms classes
 classes_stay parts old bank before vectors grows more terms classes =
     both_map (HasVector parts old before) (HasVector parts bank vectors) (λ t class. class_stays parts old bank before vectors t class grows more) terms classes
 
-pub arg_vectors_stay : (parts : SigParts) (old bank : List Tree) (before vectors : List (Vec ℕ Global)) (t : Tree) (classes : List ℕ) → Grows old bank → Extends before vectors
+pub arg_vectors_stay : (parts : SigParts) (old bank : List Tree) (before vectors : List (Vec ℕ Global)) (t : Tree) (classes : List ℕ) → Grows old bank → AddsVectors before vectors
     → HasArgVectors parts old before t classes → HasArgVectors parts bank vectors t classes
 arg_vectors_stay parts old bank before vectors t classes grows more have f args is = classes_stay parts old bank before vectors grows more args classes (have f args is)
 
@@ -63,10 +63,10 @@ none_passes test (y ∷ xs) zero x none e = ap test (some_is (sym e)) ∙ (eithe
 none_passes test (y ∷ xs) (suc n) x none e = none_passes test xs n x (either_false (test y) (list_any test xs) none).1 e
 
 module _ (before vectors : List (Vec ℕ Global)) (found : Vec ℕ Global) (keys : vectors ≡ insert_key same_items before found) where
-  pub put_extends : Extends before vectors
+  pub put_extends : AddsVectors before vectors
   put_extends = by (list_any (same_items found) before) keys
     where
-      by : (b : Bool) → vectors ≡ (if b then before else before ++ found ∷ []) → Extends before vectors
+      by : (b : Bool) → vectors ≡ (if b then before else before ++ found ∷ []) → AddsVectors before vectors
       by true e = ([], e ∙ sym (append-nil before))
       by false e = (found ∷ [], e)
 
@@ -159,7 +159,7 @@ module _ (parts : SigParts) (well : IsWellFormed parts) (bank : List Tree) (vect
       term f args classes testable app have spelled
 
 -- it stays while the bank grows and vectors are added
-pub remembers_stay : (parts : SigParts) (old bank : List Tree) (before vectors : List (Vec ℕ Global)) (found : Finds) → Grows old bank → Extends before vectors
+pub remembers_stay : (parts : SigParts) (old bank : List Tree) (before vectors : List (Vec ℕ Global)) (found : Finds) → Grows old bank → AddsVectors before vectors
     → Remembers parts old before found → Remembers parts bank vectors found
 remembers_stay parts old bank before vectors found grows more remembers w = by (found w) (remembers w)
   where
@@ -180,7 +180,7 @@ remembers_stay parts old bank before vectors found grows more remembers w = by (
 
 -- the same where vectors were added only if there was no refusal
 pub remembers_after : (parts : SigParts) (old bank : List Tree) (before vectors : List (Vec ℕ Global)) (found : Finds) (r : Result ℕ ExploreErr) → Grows old bank
-    → IfOk r (λ class. Extends before vectors) → Remembers parts old before found → IfOk r (λ class. Remembers parts bank vectors found)
+    → IfOk r (λ class. AddsVectors before vectors) → Remembers parts old before found → IfOk r (λ class. Remembers parts bank vectors found)
 remembers_after parts old bank before vectors found (Ok class) grows more remembers = remembers_stay parts old bank before vectors found grows more remembers
 remembers_after parts old bank before vectors found (Err e) grows more remembers = more
 

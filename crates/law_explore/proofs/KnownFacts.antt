@@ -28,7 +28,7 @@ use Rattle.law_testing.proofs.BothFacts.{both_at, both_more}
 use Rattle.law_explore.specs.Universe.{IsUniverse}
 use Rattle.law_explore.specs.Refusals.{Refusal, LacksValue, HasLackingTerm}
 use Rattle.law_explore.specs.Values.{HasVector, IsPlaced, HasClass, AreArgsPlaced, HasArgClasses, HasArgVectors}
-use Rattle.law_explore.specs.Classes.{Extends}
+use Rattle.law_explore.specs.Classes.{AddsVectors}
 use Rattle.law_explore.proofs.LawFacts.{some_is}
 use Rattle.law_listing.proofs.Rising.{place_of, at_place, rising_places}
 use Rattle.law_explore.proofs.ClassFacts.{classes_stay}
@@ -118,7 +118,7 @@ stands_at slice terms at t same less is = ap (λ l. slice_get l at) (sym same) �
 
 -- one class more
 pub classes_more : (parts : SigParts) (old bank : List Tree) (before vectors : List (Vec ℕ Global)) (terms : List Tree) (at : ℕ) (t : Tree) (classes more : List ℕ) (class : ℕ)
-    → Both (HasVector parts old before) (take at terms) classes → Grows old bank → Extends before vectors → HasVector parts bank vectors t class → at < length terms
+    → Both (HasVector parts old before) (take at terms) classes → Grows old bank → AddsVectors before vectors → HasVector parts bank vectors t class → at < length terms
     → t ≡ slice_index_or terms at t → more ≡ classes ++ class ∷ [] → Both (HasVector parts bank vectors) (take (at + 1) terms) more
 classes_more parts old bank before vectors terms at t classes more class have grows extends has less is_at e =
     subst (Both (HasVector parts bank vectors) (take (at + 1) terms)) (sym e)

@@ -1,10 +1,11 @@
 -- The vectors of terms, and those of applications from those of their arguments.
-use Rattle.std.proofs.Common.{◌≡◌, ℕ, zero, suc, ◌+◌, ◌<◌, ◌^◌, inl, inr, Option, Some, None, IsSome, MatchOption, Result, Ok, Err, IfOk, List, [], ◌∷◌, ◌++◌, length, take, slice_get, slice_index_or, option_map, Vec, sym, refl, ap, ap₂, ◌∙◌, subst, arith}
+use Rattle.std.proofs.Common.{◌≡◌, ℕ, zero, suc, ◌+◌, ◌<◌, ◌≤◌, inl, inr, Option, Some, None, IsSome, MatchOption, Result, Ok, Err, IfOk, List, [], ◌∷◌, ◌++◌, length, take, slice_get, slice_index_or, slice_set, option_map, Vec, sym, refl, ap, ap₂, ◌∙◌, subst, arith}
 use Rattle.std.specs.declared.alloc.Global.{Global}
 use Rattle.std.proofs.lemmas.Bool.{cases_lt}
-use Rattle.std.proofs.lemmas.List.{length_push, map_push, get_or_default}
+use Rattle.std.proofs.lemmas.List.{length_push, map_push, get_or_default, take_more_set}
 use Rattle.std.proofs.lemmas.Option.{slice_get-map, slice_get-get_or, get_or_from_slice_get}
 use Rattle.law_sig.specs.Lists.{In, Each}
+use Rattle.law_sig.specs.Evaluate.{Made, ap as applied}
 use Rattle.law_sig.specs.WellFormed.{IsWellFormed}
 use Rattle.law_sig.specs.declared.seq.NoMemory.{NoMemory}
 use Rattle.law_sig.specs.declared.tree.SortId.{SortId}
@@ -19,10 +20,12 @@ use Rattle.law_own.proofs.OwnTests.{own_tells}
 use Rattle.law_own.proofs.Standing.{first_within}
 use Rattle.law_ids.specs.declared.ids.ValueId.{ValueId}
 use Rattle.law_ids.specs.Values.{AreOf, Grows}
-use Rattle.law_ids.proofs.Reading.{each_at, take_next}
+use Rattle.law_ids.proofs.BankFacts.{take_all}
+use Rattle.law_ids.proofs.Reading.{each_at, take_next, ids_keep}
 use Rattle.law_eval.specs.declared.error.EvalErr.{EvalErr}
 use Rattle.law_draws.specs.Draws.{pools_by}
 use Rattle.law_testing.specs.Values.{IsTestable, IsValue, Both, applied_value, tests_by, val_by}
+use Rattle.law_test.specs.Memo.{Gives}
 use Rattle.law_testing.proofs.BothFacts.{both_more, both_map, both_long}
 use Rattle.law_testing.proofs.Testing.{value_stays, values_held, application_value, few_args}
 use Rattle.law_explore.specs.declared.refusal.ExploreErr.{ExploreErr}
@@ -103,7 +106,7 @@ vector_stays parts old new t vector grows is = record {
 pub record HasArgValues (parts : SigParts) (bank : List Tree) (vectors : List (Vec ℕ Global)) (test : ℕ) (term : Tree) (f : SymId) (places : List ℕ) : Type 0 where
   pub read : Each (IsRead vectors test) places
   pub held : AreOf bank (ids_at vectors test places)
-  pub few : length places < 2 ^ 32
+  pub few : length places ≤ 8
   pub value : val_by parts test term ≡ applied_value parts f bank (ids_at vectors test places)
 
 pub arg_values : (parts : SigParts) → IsWellFormed parts → (bank : List Tree) (vectors : List (Vec ℕ Global)) (test : ℕ) (term : Tree) (f : SymId) (args : List Tree) (places : List ℕ)
@@ -199,10 +202,10 @@ classes_next terms args classes at t class found more less there both is grows =
 
 -- One argument's id more
 
-pub ids_at_next : (vectors : List (Vec ℕ Global)) (test at d : ℕ) (classes : List ℕ) (ids more : List ValueId) (v : Vec ℕ Global) (slice : List ℕ) → Each (IsRead vectors test) classes
-    → ids ≡ ids_at vectors test (take at classes) → at < length classes → Some v ≡ slice_get vectors (slice_index_or classes at 0) → slice ≡ v.items
-    → more ≡ ids ++ record { 0 = slice_index_or slice test d } ∷ [] → more ≡ ids_at vectors test (take (at + 1) classes)
-ids_at_next vectors test at d classes ids more v slice reads so_far less is own grows =
+pub row_next : (vectors : List (Vec ℕ Global)) (test at d : ℕ) (classes : List ℕ) (row more : List ValueId) (v : Vec ℕ Global) (slice : List ℕ) → Each (IsRead vectors test) classes
+    → take at row ≡ ids_at vectors test (take at classes) → at < length classes → at < length row → Some v ≡ slice_get vectors (slice_index_or classes at 0) → slice ≡ v.items
+    → more ≡ slice_set row at (record { 0 = slice_index_or slice test d }) → take (at + 1) more ≡ ids_at vectors test (take (at + 1) classes)
+row_next vectors test at d classes row more v slice reads so_far less within is own grows =
     let p = slice_index_or classes at 0 in
     let there : p ≡ slice_index_or classes at p = get_or_default classes at 0 p less in
     let read = each_at (IsRead vectors test) classes at p reads less there in
@@ -210,8 +213,31 @@ ids_at_next vectors test at d classes ids more v slice reads so_far less is own 
     let items : slice ≡ read.vector.items = own ∙ ap (λ (w : Vec ℕ Global). w.items) v_is in
     let id : slice_index_or slice test d ≡ slice_index_or (slice_index_or (items_of vectors) p []) test 0
     = ap (λ l. slice_index_or l test d) items ∙ get_or_default read.vector.items test d 0 read.within ∙ ap (λ l. slice_index_or l test 0) (sym (vector_there vectors p read.vector read.there)) in
-    grows ∙ ap₂ (λ l n. l ++ record { 0 = n } ∷ []) so_far id ∙ sym (map_push (id_at vectors test) (take at classes) p)
+    ap (take (at + 1)) grows ∙ take_more_set row at (record { 0 = slice_index_or slice test d }) within
+    ∙ ap₂ (λ l n. l ++ record { 0 = n } ∷ []) so_far id ∙ sym (map_push (id_at vectors test) (take at classes) p)
     ∙ ap (ids_at vectors test) (sym (take_next classes at p less there))
+
+-- all of them
+pub row_all : (vectors : List (Vec ℕ Global)) (test at : ℕ) (classes : List ℕ) (row : List ValueId) → at ≡ length classes → take at row ≡ ids_at vectors test (take at classes)
+    → take (length classes) row ≡ ids_at vectors test classes
+row_all vectors test at classes row end so_far =
+    ap (λ n. take n row) (sym end) ∙ so_far ∙ ap (ids_at vectors test) (take_all classes at (let e = end in omega arith))
+
+pub row_long : (n : ℕ) (row : List ValueId) → n ≤ length row → n ≡ length (take n row)
+row_long zero row h = refl
+row_long (suc n) [] h = absurd (omega arith)
+row_long (suc n) (x ∷ row) h = ap suc (row_long n row (omega arith))
+
+-- what a symbol gives of them is made in the bank
+pub given_is_made : (parts : SigParts) (old new : List Tree) (f : SymId) (ids own : List ValueId) (r : Result ValueId EvalErr) → own ≡ ids → AreOf old ids → Grows old new
+    → IfOk r (Gives parts new f own) → IfOk r (IsMadeIn (applied_value parts f old ids) new)
+given_is_made parts old new f ids own (Ok v) same held grows gives =
+    let kept = ids_keep old new grows ids held in
+    record {
+      held = gives.held;
+      is = ap (λ ts. option_map (λ (m : Made). m.value) (applied parts f ts parts.settings.budget)) (sym kept.1) ∙ ap (applied_value parts f new) (sym same) ∙ gives.is;
+    }
+given_is_made parts old new f ids own (Err e) same held grows gives = gives
 
 -- a class and a test of it are there
 id_read : (vectors : List (Vec ℕ Global)) (test at : ℕ) (classes : List ℕ) → Each (IsRead vectors test) classes → at < length classes → IsRead vectors test (slice_index_or classes at 0)

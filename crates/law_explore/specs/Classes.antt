@@ -14,8 +14,8 @@ abbrev pub AreDistinct : List (Vec ℕ Global) → Type 0
 AreDistinct vectors = (a b : ℕ) (v w : Vec ℕ Global) → slice_get vectors a ≡ Some v → slice_get vectors b ≡ Some w → v.items ≡ w.items → a ≡ b
 
 -- vectors are added at the end alone
-abbrev pub Extends : List (Vec ℕ Global) → List (Vec ℕ Global) → Type 0
-Extends old new = (more : List (Vec ℕ Global)) × (new ≡ old ++ more)
+abbrev pub AddsVectors : List (Vec ℕ Global) → List (Vec ℕ Global) → Type 0
+AddsVectors old new = (more : List (Vec ℕ Global)) × (new ≡ old ++ more)
 
 -- each term has a class, and no two classes have one vector
 pub record AreClasses (parts : SigParts) (bank terms : List Tree) (classes : List ℕ) : Type 0 where

@@ -3,6 +3,7 @@ ghost use Rattle.law_sig.specs.Tests.{assignments};
 ghost use Rattle.law_ids.specs.Values.{Grows};
 ghost use Rattle.law_draws.specs.Draws.{pools_by};
 ghost use Rattle.law_lines.specs.Signature.{IsRawSig};
+ghost use Rattle.law_testing.specs.Evaluators.{AreReady, Extends};
 ghost use Rattle.law_testing.specs.Values.{ArePools};
 ghost use Rattle.law_explore.specs.LawList.{AreLaws, IsLawListOf, OneRefusal, NoneWithin};
 ghost use Rattle.law_explore.specs.Refusals.{IsRefusal, HasLargeValue, HasSmallValues, HasLackingTerm, IsTold};
@@ -20,7 +21,7 @@ use law_gen::GenErr;
 use law_lines::RawSig;
 use law_pool::Pools;
 use law_sig::{Equation, Seq, Sig, Tree};
-use law_test::{Tester, pools_of};
+use law_test::{Evaluator, Tester, pools_of};
 use law_value::ValueBank;
 use std::alloc::Global;
 
@@ -48,15 +49,15 @@ fn small_pools(alloc: Global, sig: &Sig, bank: &mut ValueBank) -> Result<Pools, 
 
 /// The laws that hold at every test: for each term of the universe that isn't the least of its values, the equation
 /// with the least.
-fn laws_of(tester: &Tester, bank: &mut ValueBank) -> Result<Seq<Equation>, ExploreErr>
-    requires { ArePools tester.now.sig.now bank.old tester.now.pools.now }
+fn laws_of(tester: &Tester, evaluator: &mut Evaluator<'_>) -> Result<Seq<Equation>, ExploreErr>
+    requires { AreReady tester.now.sig.now evaluator.old tester.now.pools.now }
     ensures laws { IfOk result (AreLaws tester.now.sig.now) }
     ensures lacks { IfErr result (IsTold tester.now.sig.now (HasLackingTerm tester.now.sig.now (pools_by tester.now.sig.now))) }
-    ensures grows { Grows bank.old bank.new }
+    ensures extends { Extends evaluator.old evaluator.new }
 {
     let terms = universe(tester.alloc, tester.sig)?;
-    let classes = classes_of(tester, bank, &terms)?;
-    bank.shared();
+    let classes = classes_of(tester, evaluator, &terms)?;
+    evaluator.shared();
     let firsts = first_same(tester.alloc, classes)?;
     Ok(equations(tester.alloc, terms.as_slice(), firsts.as_slice())?)
 }
@@ -74,15 +75,19 @@ fn by_numbers(alloc: Global, sig: &Sig, terms: u64) -> Result<Listed, ExploreErr
     };
     let mut bank = ValueBank::new(alloc);
     let pools = small_pools(alloc, sig, &mut bank)?;
+    let written = pools.written(alloc, &bank)?;
     let tester = Tester {
         alloc,
         sig,
         pools: &pools,
     };
-    check_background(&tester, &mut bank)?;
-    let laws = laws_of(&tester, &mut bank)?;
-    let pools = pools.written(alloc, &bank)?;
-    Ok(Listed { pools, laws })
+    let mut evaluator = Evaluator::new(alloc, sig, bank);
+    check_background(&tester, &mut evaluator)?;
+    let laws = laws_of(&tester, &mut evaluator)?;
+    Ok(Listed {
+        pools: written,
+        laws,
+    })
 }
 
 /// The law list of a signature with these lines, which covers its universe of at most so many terms; the grammar of law

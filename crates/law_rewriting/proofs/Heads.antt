@@ -13,7 +13,7 @@ use Rattle.law_laws.proofs.TreeFacts.{tree_cases, substituted-Var, substituted-A
 use Rattle.law_laws.proofs.Sorts.{both_true, same_sort_is, sorted_app, sorted_var, var_sorted}
 use Rattle.law_sig.specs.declared.chain.Bind.{Bind}
 use Rattle.law_sig.specs.Chains.{is_bound, bound_in}
-use Rattle.law_rewriting.specs.Heads.{Sorts, head_sort, head_sort_of, KeepsHeads, sorts_in, result_or}
+use Rattle.law_rewriting.specs.Heads.{Sorts, head_sort, head_sort_of, KeepsHeads, sorts_in, result_or_first}
 
 pub head-Var : (r : Sorts) (s : SortId) (i : ℕ) → head_sort r (Var s i) ≡ s
 head-Var r s i = ap (head_sort_of r) (outs-Var s i)
@@ -26,7 +26,7 @@ pub sorted_head : (parts : SigParts) (t : Tree) (w : SortId) → sort_of parts t
 sorted_head parts = tree_cases (λ t. (w : SortId) → sort_of parts t ≡ Some w → head_sort (sorts_in parts) t ≡ w)
     (λ s i w e. head-Var (sorts_in parts) s i ∙ (sorted_var parts s i w e).1)
     (λ f args w e. let a = sorted_app parts f args w e in
-    head-App (sorts_in parts) f args ∙ ap (result_or _) a.declared ∙ a.result)
+    head-App (sorts_in parts) f args ∙ ap result_or_first a.declared ∙ a.result)
 
 -- a substitution that keeps heads keeps them of every term
 pub head_kept : (r : Sorts) (σ : Subst) → KeepsHeads r σ → (u : Tree) → head_sort r (substituted σ u) ≡ head_sort r u

@@ -1,6 +1,6 @@
 -- The sort of a term by its head alone: that of the variable, or the result sort of the symbol. Matching, unification and
 -- rewriting ask for no more; of a well-sorted term it is its sort.
-use Rattle.std.specs.Prelude.{◌≡◌, ℕ, length, Option, Some, None}
+use Rattle.std.specs.Prelude.{◌≡◌, ℕ, Option, Some, None}
 use Rattle.law_sig.specs.Trees.{Subst}
 use Rattle.law_sig.specs.Signature.{symbol_at, result_of}
 use Rattle.law_sig.specs.declared.tree.SortId.{SortId}
@@ -27,10 +27,10 @@ head_sort r t = head_sort_of r (out-Tree t)
 abbrev pub KeepsHeads : Sorts → Subst → Type 0
 KeepsHeads r σ = (sort : SortId) (index : ℕ) → head_sort r (σ sort index) ≡ sort
 
--- the result sorts of a signature; a symbol that isn't declared has a sort that isn't
-abbrev pub result_or : SortId → Option Sym → SortId
-result_or undeclared None = undeclared
-result_or undeclared (Some symbol) = result_of symbol
+-- the result sorts of a signature, and the first sort for what isn't declared, as banks of terms have it
+abbrev pub result_or_first : Option Sym → SortId
+result_or_first None = record { 0 = 0 }
+result_or_first (Some symbol) = result_of symbol
 
 abbrev pub sorts_in : SigParts → Sorts
-sorts_in parts f = result_or (record { 0 = length parts.sort_names }) (symbol_at parts f)
+sorts_in parts f = result_or_first (symbol_at parts f)

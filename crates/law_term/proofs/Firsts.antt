@@ -63,15 +63,13 @@ but_in n k e (there {y = m} {xs = ms} at) = by (n == m) (but_in n k e at)
 -- one that stands there already adds nothing
 but_again : (n : ℕ) (xs zs : List ℕ) → all_but n (firsts (xs ++ n ∷ zs)) ≡ all_but n (firsts (xs ++ zs))
 but_again n [] zs = ap (λ b. if b then all_but n (all_but n (firsts zs)) else n ∷ all_but n (all_but n (firsts zs))) (eq-eqb n n refl) ∙ but_twice n (firsts zs)
-but_again n (x ∷ xs) zs = by (n == x)
+but_again n (x ∷ xs) zs = by (n == x) (but_turned n x (firsts (xs ++ n ∷ zs)) ∙ ap (all_but x) (but_again n xs zs) ∙ but_turned x n (firsts (xs ++ zs)))
   where
-    ih : all_but n (all_but x (firsts (xs ++ n ∷ zs))) ≡ all_but n (all_but x (firsts (xs ++ zs)))
-    ih = but_turned n x (firsts (xs ++ n ∷ zs)) ∙ ap (all_but x) (but_again n xs zs) ∙ but_turned x n (firsts (xs ++ zs))
-
-    by : (b : Bool) → (if b then all_but n (all_but x (firsts (xs ++ n ∷ zs))) else x ∷ all_but n (all_but x (firsts (xs ++ n ∷ zs))))
+    by : (b : Bool) → all_but n (all_but x (firsts (xs ++ n ∷ zs))) ≡ all_but n (all_but x (firsts (xs ++ zs)))
+        → (if b then all_but n (all_but x (firsts (xs ++ n ∷ zs))) else x ∷ all_but n (all_but x (firsts (xs ++ n ∷ zs))))
         ≡ (if b then all_but n (all_but x (firsts (xs ++ zs))) else x ∷ all_but n (all_but x (firsts (xs ++ zs))))
-    by true = ih
-    by false = ap (λ l. x ∷ l) ih
+    by true ih = ih
+    by false ih = ap (λ l. x ∷ l) ih
 
 one_known : {n : ℕ} {xs : List ℕ} (zs : List ℕ) → In n xs → firsts (xs ++ n ∷ zs) ≡ firsts (xs ++ zs)
 one_known zs (here {x = n} {xs = xs}) = ap (λ l. n ∷ l) (but_again n xs zs)

@@ -2,7 +2,7 @@ pub mod Items
 pub mod Interning
 pub mod Firsts
 pub mod Walking
-pub mod Listing
+pub mod Noting
 pub mod Bound
 pub mod Placing
 pub mod Counting

@@ -100,6 +100,32 @@ too_many_var vars old sort i h = record {
   many = let l = ap length (append-nil (holes sort (Var sort i)) ∙ holes-Var sort sort i ∙ ap (λ b. if b then i ∷ [] else []) (same_sort_itself sort)) in omega (arith, h, l);
 }
 
+index_within : (xs : List ℕ) (k n : ℕ) → n < slice_index_or xs k 0 → k < length xs
+index_within [] k n h = absurd (omega (arith, h))
+index_within (x ∷ xs) zero n h = omega arith
+index_within (x ∷ xs) (suc k) n h = let r = index_within xs k n h in omega (arith, r)
+
+-- a variable in the place of another one, under the next number
+pub next_var_is : (vars old new : List ℕ) (sort : SortId) (n i : ℕ) → AreUsed vars old → n ≡ number_at old sort → n < number_at vars sort → new ≡ slice_set old sort.0 (n + 1)
+    → (t g : Tree) → t ≡ Var sort i → g ≡ Var sort n → (schema_of g ≡ schema_of t) × AreNext old new (t ∷ []) (g ∷ [])
+next_var_is vars old new sort n i u is less set t g p q = (
+  ap schema_of q ∙ schema-Var sort n ∙ sym (ap schema_of p ∙ schema-Var sort i),
+  subst (λ l. AreNext old l (t ∷ []) (g ∷ [])) (sym set)
+      (subst (λ z. AreNext old (slice_set old sort.0 (n + 1)) (z ∷ []) (g ∷ [])) (sym p)
+      (subst (λ z. AreNext old (slice_set old sort.0 (n + 1)) (Var sort i ∷ []) (z ∷ [])) (sym q)
+      (next_var vars old sort n u (index_within vars sort.0 n less) less is i))),
+)
+
+pub too_many_is : (vars old : List ℕ) (sort : SortId) (i : ℕ) (t : Tree) → t ≡ Var sort i → number_at vars sort ≤ number_at old sort → AreTooMany vars old (t ∷ [])
+too_many_is vars old sort i t e h = subst (λ z. AreTooMany vars old (z ∷ [])) (sym e) (too_many_var vars old sort i h)
+
+-- what is said of an answer, where it is known
+pub when_none : {A : Type 0} (o : Option A) (P : Type 0) (Q : A → Type 0) → o ≡ None → MatchOption o P Q → P
+when_none o P Q e h = subst (λ z. MatchOption z P Q) e h
+
+pub when_some : {A : Type 0} (o : Option A) (x : A) (P : Type 0) (Q : A → Type 0) → o ≡ Some x → MatchOption o P Q → Q x
+when_some o x P Q e h = subst (λ z. MatchOption z P Q) e h
+
 -- Lists of terms
 
 holes_append : (s : SortId) (ss ts : List Tree) → holes_in s (ss ++ ts) ≡ holes_in s ss ++ holes_in s ts
@@ -110,13 +136,18 @@ holes_append s (t ∷ ss) ts = ap (λ l. holes s t ++ l) (holes_append s ss ts) 
 holes_more : (s : SortId) (t : Tree) (ts : List Tree) → holes_in s (t ∷ ts) ≡ holes_in s (t ∷ []) ++ holes_in s ts
 holes_more s t ts = holes_append s (t ∷ []) ts
 
-first_of_more : (m n : ℕ) (f : ℕ → ℕ) → first_of (m + n) f ≡ first_of m f ++ first_of n (λ i. f (m + i))
-first_of_more zero n f = refl
-first_of_more (suc m) n f = ap (λ l. f 0 ∷ l) (first_of_more m n (λ i. f (suc i)))
-
 first_of_same : (n : ℕ) (f g : ℕ → ℕ) → ((i : ℕ) → f i ≡ g i) → first_of n f ≡ first_of n g
 first_of_same zero f g h = refl
 first_of_same (suc n) f g h = ap₂ ◌∷◌ (h 0) (first_of_same n (λ i. f (suc i)) (λ i. g (suc i)) (λ i. h (suc i)))
+
+first_of_more : (m n : ℕ) (f : ℕ → ℕ) → first_of (m + n) f ≡ first_of m f ++ first_of n (λ i. f (m + i))
+first_of_more zero n f =
+    let e : 0 + n ≡ n = omega arith in
+    ap (λ k. first_of k f) e ∙ first_of_same n f (λ i. f (0 + i)) (λ i. let z : i ≡ 0 + i = omega arith in ap f z)
+first_of_more (suc m) n f =
+    let e : suc m + n ≡ suc (m + n) = omega arith in
+    ap (λ k. first_of k f) e ∙ ap (λ l. f 0 ∷ l) (first_of_more m n (λ i. f (suc i)))
+    ∙ ap (λ l. f 0 ∷ (first_of m (λ i. f (suc i)) ++ l)) (first_of_same n (λ i. f (suc (m + i))) (λ i. f (suc m + i)) (λ i. let z : suc (m + i) ≡ suc m + i = omega arith in ap f z))
 
 first_of_long : (n : ℕ) (f : ℕ → ℕ) → length (first_of n f) ≡ n
 first_of_long zero f = refl
@@ -228,3 +259,9 @@ module _ (vars start now : List ℕ) (none : (s : SortId) → number_at start s 
         ∙ ap (λ k. first_of k (λ i. i)) (sym long);
     few = λ s. let a = n.used s in let b = none s in let c = u.few s in let d = ap length (alone s t) in omega (arith, a, b, c, d);
   }
+
+pub general_is : (vars start now : List ℕ) → ((s : SortId) → number_at start s ≡ 0) → (t : Tree) (o : Option (Bor Node)) → AreUsed vars now
+    → MatchOption o (AreTooMany vars start (t ∷ [])) (λ g. (schema_of (tree_of g.now) ≡ schema_of t) × AreNext start now (t ∷ []) (tree_of g.now ∷ []))
+    → MatchOption o (HasTooMany vars t) (λ g. IsGeneralOf vars t (tree_of g.now))
+general_is vars start now none t None u h = general_none vars start now none t h
+general_is vars start now none t (Some g) u h = general_some vars start now none t (tree_of g.now) u h.0 h.1

@@ -237,7 +237,8 @@ impl<'a> TermBank<'a> {
         ensures held { IfOk result (λ e. IsOf self.new e.left.now × IsOf self.new e.right.now) }
         ensures grows { Grows self.old self.new }
     {
-        let variables = self.variables(&[left, right])?;
+        let terms = [left, right];
+        let variables = self.variables(&terms)?;
         let renumber = Change::Renumber(variables.as_slice());
         let new_left = changed(self, renumber, left)?;
         let new_right = changed(self, renumber, right)?;

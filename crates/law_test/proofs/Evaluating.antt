@@ -1,7 +1,6 @@
 -- What an evaluator knows, in a bank that grows.
-use Rattle.std.proofs.Common.{◌≡◌, ℕ, zero, suc, ◌+◌, ◌^◌, ◌<◌, ◌≤◌, ◌++◌, take, slice_index_or, slice_set, Option, Some, None, IfSome, Result, Ok, Err, IfOk, List, [], ◌∷◌, map, length, option_map, sym, refl, ap, ap₂, ◌∙◌, subst, arith}
+use Rattle.std.proofs.Common.{◌≡◌, ℕ, zero, suc, ◌+◌, ◌<◌, ◌≤◌, ◌++◌, take, slice_index_or, slice_set, Option, Some, None, IfSome, Result, Ok, Err, IfOk, List, [], ◌∷◌, length, option_map, sym, refl, ap, ap₂, ◌∙◌, subst, arith}
 use Rattle.std.proofs.lemmas.List.{take_more_set}
-use Rattle.law_sig.specs.Lists.{Each}
 use Rattle.law_sig.specs.Evaluate.{Made, ap as applied}
 use Rattle.law_sig.specs.WellFormed.{IsWellFormed}
 use Rattle.law_sig.specs.declared.tree.SymId.{SymId}
@@ -11,15 +10,13 @@ use Rattle.law_sig.specs.declared.parts.SigParts.{SigParts}
 use Rattle.law_ids.specs.declared.ids.ValueId.{ValueId}
 use Rattle.law_ids.specs.Values.{IsOf, AreOf, tree_of, trees_of, Grows}
 use Rattle.law_eval.specs.declared.error.EvalErr.{EvalErr}
-use Rattle.law_ids.specs.Table.{PoolTable}
-use Rattle.law_ids.proofs.Reading.{grows_not, grows_on, id_keeps, ids_keep, each_at, take_next}
+use Rattle.law_ids.proofs.Reading.{id_keeps, ids_keep, each_at, take_next}
 use Rattle.law_test.specs.declared.memo.Key.{Key}
 use Rattle.law_test.specs.declared.memo.Known.{Known}
 use Rattle.law_testing.specs.Values.{IsTestable, IsValue, Both, val_by, applied_value}
 use Rattle.law_test.specs.Memo.{Gives, row_of, IsRight, AreRight}
-use Rattle.law_testing.specs.Evaluators.{Values, AreReady, Extends}
 use Rattle.law_testing.proofs.BothFacts.{both_more, both_map}
-use Rattle.law_testing.proofs.Testing.{pools_stay, value_stays, few_args, HasValues}
+use Rattle.law_testing.proofs.Testing.{value_stays, few_args, HasValues}
 
 -- What is known stays when the bank grows
 

@@ -6,20 +6,21 @@ ghost use Rattle.law_testing.specs.Evaluators.{AreReady, Extends};
 
 use super::memo::{Known, Memo, key_of};
 use super::values::Tester;
-use law_eval::{EvalErr, apply};
+use law_eval::{Buffers, EvalErr, apply_with};
 use law_sig::{Sig, SymId, Tree};
 use law_value::{ValueBank, ValueId};
 use std::alloc::Global;
 use std::marker::Model;
 
 /// Values of terms over one signature, in a bank of its own. What a symbol gave of values is known for a while, and is not
-/// evaluated again. Contracts see the signature and the bank.
+/// evaluated again; the room of one application is left to the next. Contracts see the signature and the bank.
 #[derive(Drop)]
 pub struct Evaluator<'s> {
     alloc: Global,
     sig: &'s Sig,
     bank: ValueBank,
     memo: Memo,
+    buffers: Buffers<'s>,
 }
 
 impl<'s> Model for Evaluator<'s> {
@@ -48,6 +49,7 @@ impl<'s> Evaluator<'s> {
             sig,
             bank,
             memo: Memo::new(alloc),
+            buffers: Buffers::new(alloc),
         }
     }
 
@@ -67,12 +69,21 @@ impl<'s> Evaluator<'s> {
         ensures extends { Extends self.old self.new }
     {
         let budget = self.sig.settings().budget;
-        let (value, _) = apply(self.alloc, self.sig, &mut self.bank, sym, ids, budget)?;
+        let (value, _) = apply_with(
+            &mut self.buffers,
+            self.alloc,
+            self.sig,
+            &mut self.bank,
+            sym,
+            ids,
+            budget,
+        )?;
         Ok(value)
     }
 
-    /// The same, which is kept if there are at most three values, and is not evaluated where it is known.
-    fn given(&mut self, sym: SymId, ids: &[ValueId]) -> Result<ValueId, EvalErr>
+    /// What a symbol gives of values, with the full budget. Of at most three values it is kept, and is not evaluated where it is
+    /// known.
+    pub fn apply(&mut self, sym: SymId, ids: &[ValueId]) -> Result<ValueId, EvalErr>
         requires held { AreOf self.old.bank ids.now }
         requires few { length ids.now < 2 ^ 32 }
         ensures gives { IfOk result (Gives self.old.parts self.new.bank sym ids.now) }
@@ -108,7 +119,7 @@ impl<'s> Evaluator<'s> {
                 for (at, arg) in args.iter().enumerate() {
                     row[at] = self.value(tester, test, arg)?;
                 }
-                self.given(*head, &row[..args.len()])
+                self.apply(*head, &row[..args.len()])
             }
         }
     }

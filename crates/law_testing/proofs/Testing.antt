@@ -1,5 +1,5 @@
 -- The values of terms at tests, in a bank that grows.
-use Rattle.std.proofs.Common.{◌≡◌, ℕ, zero, suc, ◌+◌, ◌^◌, ◌<◌, ◌≤◌, ◌++◌, take, slice_get, slice_index_or, Option, Some, None, List, [], ◌∷◌, map, length, IsTrue, option_map, option_and_then, sym, refl, ap, ◌∙◌, subst, arith}
+use Rattle.std.proofs.Common.{◌≡◌, ℕ, zero, suc, ◌^◌, ◌<◌, ◌≤◌, take, slice_get, slice_index_or, Option, Some, None, List, [], ◌∷◌, map, length, IsTrue, option_map, option_and_then, sym, refl, ap, ◌∙◌, subst, arith}
 use Rattle.std.proofs.lemmas.Option.{slice_get-get_or}
 use Rattle.law_sig.specs.Lists.{Each}
 use Rattle.law_sig.specs.Signature.{args_of}
@@ -16,13 +16,13 @@ use Rattle.law_laws.proofs.Renaming.{vars-App}
 use Rattle.law_laws.proofs.Sorts.{HaveSorts, sorted_app}
 use Rattle.law_laws.proofs.TreeFacts.{val-App}
 use Rattle.law_ids.specs.declared.ids.ValueId.{ValueId}
-use Rattle.law_ids.specs.Values.{IsOf, AreOf, tree_of, trees_of, Grows}
+use Rattle.law_ids.specs.Values.{AreOf, tree_of, trees_of, Grows}
 use Rattle.law_ids.specs.Table.{PoolTable, IsFor, pools_of}
 use Rattle.law_ids.proofs.BankFacts.{take_all}
-use Rattle.law_ids.proofs.Reading.{list_keeps, sorts_keep, id_keeps, each_at, take_next}
+use Rattle.law_ids.proofs.Reading.{list_keeps, sorts_keep, id_keeps, each_at}
 use Rattle.law_draws.specs.Draws.{pools_by}
 use Rattle.law_testing.specs.Values.{ArePools, IsTestable, IsValue, Both, tests_by, val_by, applied_value}
-use Rattle.law_testing.proofs.BothFacts.{both_more, both_map, both_long}
+use Rattle.law_testing.proofs.BothFacts.{both_long}
 
 -- Pools and values stay when the bank grows
 
@@ -121,16 +121,6 @@ pub value_missing : (parts : SigParts) (test : ℕ) (term : Tree) (f : SymId) (a
 value_missing parts test term f args at t is less there none =
     ap (val_by parts test) is ∙ application_missing parts test f args at t (slice_get-get_or args at t less ∙ ap Some (sym there)) none
 
--- one argument more
-pub values_next : (parts : SigParts) (old new : List Tree) (test : ℕ) (args : List Tree) (at : ℕ) (t : Tree) (ids more : List ValueId) (v : ValueId)
-    → Both (IsValue parts old test) (take at args) ids → Grows old new → at < length args → t ≡ slice_index_or args at t → IsValue parts new test t v
-    → more ≡ ids ++ v ∷ [] → Both (IsValue parts new test) (take (at + 1) args) more
-values_next parts old new test args at t ids more v both grows less there is e =
-    subst (Both (IsValue parts new test) (take (at + 1) args)) (sym e)
-    (subst (λ l. Both (IsValue parts new test) l (ids ++ v ∷ [])) (sym (take_next args at t less there))
-    (both_more (IsValue parts new test) (take at args) ids t v
-    (both_map (IsValue parts old test) (IsValue parts new test) (λ s w k. value_stays parts old new test s w grows k) (take at args) ids both) is))
-
 -- all arguments
 pub record HasValues (parts : SigParts) (bank : List Tree) (test : ℕ) (term : Tree) (f : SymId) (ids : List ValueId) : Type 0 where
   pub held : AreOf bank ids
@@ -148,17 +138,3 @@ values_all parts well bank test term f args at ids own is testable end both same
       few = omega arith;
       value = ap (val_by parts test) is ∙ application_value parts bank test f args ids all;
     })
-
--- the value of an application within the budget, and none where it is over
-pub made_value : (parts : SigParts) (old new : List Tree) (test : ℕ) (term : Tree) (f : SymId) (ids : List ValueId) (budget cost : ℕ) (v : ValueId) → HasValues parts old test term f ids
-    → budget ≡ parts.settings.budget → IsOf new v → applied parts f (trees_of old ids) budget ≡ Some (record { value = tree_of new v; cost = cost })
-    → IsValue parts new test term v
-made_value parts old new test term f ids budget cost v values is held e = record {
-  held = held;
-  is = values.value ∙ ap (λ b. option_map (λ (m : Made). m.value) (applied parts f (trees_of old ids) b)) (sym is) ∙ ap (option_map (λ (m : Made). m.value)) e;
-}
-
-pub made_none : (parts : SigParts) (old : List Tree) (test : ℕ) (term : Tree) (f : SymId) (ids : List ValueId) (budget : ℕ) → HasValues parts old test term f ids
-    → budget ≡ parts.settings.budget → applied parts f (trees_of old ids) budget ≡ None → val_by parts test term ≡ None
-made_none parts old test term f ids budget values is e =
-    values.value ∙ ap (λ b. option_map (λ (m : Made). m.value) (applied parts f (trees_of old ids) b)) (sym is) ∙ ap (option_map (λ (m : Made). m.value)) e

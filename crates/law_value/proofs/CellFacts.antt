@@ -1,6 +1,7 @@
 -- What adding a cell to a table of cells does to the trees.
-use Rattle.std.proofs.Common.{◌≡◌, ℕ, zero, suc, ◌+◌, ◌-◌, ◌<◌, ◌^◌, ◌⊎◌, inl, inr, min, List, [], ◌∷◌, ◌++◌, length, Bool, true, false, ◌&&◌, ◌||◌, if◌then◌else◌, Some, slice_get, get_or, true≢false, refl, sym, ap, subst, subst₂, ◌∙◌, arith, length-append, append-nil, slice_index_or, option_map}
+use Rattle.std.proofs.Common.{◌≡◌, ℕ, zero, suc, ◌+◌, ◌-◌, ◌<◌, ◌^◌, ◌⊎◌, inl, inr, min, List, [], ◌∷◌, ◌++◌, length, Bool, true, false, ◌&&◌, ◌||◌, if◌then◌else◌, Some, slice_get, position, get_or, true≢false, refl, sym, ap, subst, subst₂, ◌∙◌, arith, length-append, append-nil, slice_index_or, option_map}
 use Rattle.std.proofs.lemmas.List.{length-map}
+use Rattle.std.proofs.lemmas.List.Quantifiers.{position-Some}
 use Rattle.std.proofs.lemmas.Bool.{eqb-true, eq-eqb}
 use Rattle.indexmap.specs.IndexSet.{insert_key}
 use Rattle.std.proofs.lemmas.Option.{slice_get-map, slice_get_read, slice_get-get_or, slice_get_within}
@@ -15,7 +16,7 @@ use Rattle.law_sig.specs.declared.tree.Tree.TheVariants.{App}
 use Rattle.law_ids.specs.declared.ids.ValueId.{ValueId}
 use Rattle.law_value.specs.declared.bank.Cell.{Cell}
 use Rattle.law_ids.specs.Values.{IsOf, AreOf, no_tree, tree_of, trees_of, head_of, fields_of, IsShared, Grows, Adds}
-use Rattle.law_value.specs.Cells.{tree_in, trees_after, trees, IsCell, AreCells}
+use Rattle.law_value.specs.Cells.{tree_in, trees_after, trees, IsCell, AreCells, same_id, has_parts}
 use Rattle.law_ids.proofs.BankFacts.{tree_stays, trees_stay, earlier_held, ids_shared, get_stays, get_last, get_more, tree_at, App-same, head_of-App, fields_of-App}
 
 -- the trees of one cell more
@@ -59,13 +60,10 @@ pub cell_field : (bank : List Tree) (v : ValueId) (cell : Cell) (at : ℕ) (w : 
 cell_field bank v cell at w is within get = ap (λ l. slice_get l at) (cell_fields bank v cell is) ∙ slice_get-map (tree_of bank) cell.fields.items at
     ∙ ap (option_map (tree_of bank)) (slice_get_read cell.fields.items (length cell.fields.items) at w refl within get)
 
--- Two cells are the same where they have one symbol, the same fields and the same number of nodes
-
-abbrev pub same_id : ValueId → ValueId → Bool
-same_id v w = v.0 == w.0
+-- Two cells are the same where they have one symbol and the same fields
 
 abbrev pub same_cell : Cell → Cell → Bool
-same_cell a b = a.sym.0 == b.sym.0 && (pointwise same_id a.fields.items b.fields.items && (a.nodes == b.nodes))
+same_cell a b = has_parts a.sym a.fields.items b
 
 both_true : (a b : Bool) → (a && b) ≡ true → (a ≡ true) × (b ≡ true)
 both_true true b e = (refl, e)
@@ -84,19 +82,32 @@ same_ids : (xs : List ValueId) → pointwise same_id xs xs ≡ true
 same_ids [] = refl
 same_ids (x ∷ xs) = ap (λ b. b && pointwise same_id xs xs) (eq-eqb x.0 x.0 refl) ∙ same_ids xs
 
-pub cells_same : (a b : Cell) → same_cell a b ≡ true → (a.sym ≡ b.sym) × (a.fields.items ≡ b.fields.items)
-cells_same a b e =
-    let outer = both_true (a.sym.0 == b.sym.0) (pointwise same_id a.fields.items b.fields.items && (a.nodes == b.nodes)) e in
-    let inner = both_true (pointwise same_id a.fields.items b.fields.items) (a.nodes == b.nodes) outer.1 in
-    (ap (λ n. let f : SymId = record { 0 = n } in f) (eqb-true a.sym.0 b.sym.0 outer.0), ids_same a.fields.items b.fields.items inner.0)
+-- a cell with these parts
+pub parts_same : (f : SymId) (ids : List ValueId) (cell : Cell) → has_parts f ids cell ≡ true → (f ≡ cell.sym) × (ids ≡ cell.fields.items)
+parts_same f ids cell e =
+    let both = both_true (f.0 == cell.sym.0) (pointwise same_id ids cell.fields.items) e in
+    (ap (λ n. let g : SymId = record { 0 = n } in g) (eqb-true f.0 cell.sym.0 both.0), ids_same ids cell.fields.items both.1)
 
-pub same_cells : (a b : Cell) → a.sym ≡ b.sym → a.fields.items ≡ b.fields.items → a.nodes ≡ b.nodes → same_cell a b ≡ true
-same_cells a b s f n =
+pub same_cells : (a b : Cell) → a.sym ≡ b.sym → a.fields.items ≡ b.fields.items → same_cell a b ≡ true
+same_cells a b s f =
     let syms : (a.sym.0 == b.sym.0) ≡ true = eq-eqb a.sym.0 b.sym.0 (ap (λ (g : SymId). g.0) s) in
     let ids : pointwise same_id a.fields.items b.fields.items ≡ true = ap (pointwise same_id a.fields.items) (sym f) ∙ same_ids a.fields.items in
-    let counts : (a.nodes == b.nodes) ≡ true = eq-eqb a.nodes b.nodes n in
-    ap (λ x. x && (pointwise same_id a.fields.items b.fields.items && (a.nodes == b.nodes))) syms
-    ∙ ap (λ x. x && (a.nodes == b.nodes)) ids ∙ counts
+    ap (λ x. x && pointwise same_id a.fields.items b.fields.items) syms ∙ ids
+
+-- where a cell with these parts stands, its tree does
+pub known_is : (bank : List Tree) (cells : List Cell) (f : SymId) (ids : List ValueId) (at : ℕ) → AreCells cells bank → position (has_parts f ids) cells ≡ Some at
+    → (at < length bank) × (slice_index_or bank at no_tree ≡ App f (trees_of bank ids))
+known_is bank [] f ids at are e = cc
+known_is bank (first ∷ others) f ids at are e =
+    let cells = first ∷ others in
+    let found = position-Some (has_parts f ids) cells at first e in
+    let cell = get_or cells at first in
+    let v : ValueId = record { 0 = at } in
+    let is = are.each at cell (slice_get-get_or cells at first found.0) in
+    let parts = parts_same f ids cell found.1 in (
+      omega (arith, are.one_each, found.0),
+      cell_tree bank v cell is ∙ ap (λ g. App g (trees_of bank cell.fields.items)) (sym parts.0) ∙ ap (λ l. App f (trees_of bank l)) (sym parts.1),
+    )
 
 -- A cell is put into the table
 
@@ -129,8 +140,7 @@ fresh bank cells cell are may none v held e =
     let is = are.each v.0 k get in
     let parts = App-same cell.sym k.sym (trees_of bank cell.fields.items) (trees_of bank k.fields.items) (sym e ∙ cell_tree bank v k is) in
     let ids = ids_shared bank cell.fields.items k.fields.items are.shared may.held (earlier_held bank v.0 k.fields.items held is.earlier) parts.1 in
-    let counts : cell.nodes ≡ k.nodes = may.nodes ∙ ap (λ t. min (node_count t) (2 ^ 64 - 1)) (sym e ∙ cell_tree bank v k is) ∙ sym is.nodes in
-    let same : same_cell cell k ≡ true = same_cells cell k parts.0 ids counts in
+    let same : same_cell cell k ≡ true = same_cells cell k parts.0 ids in
     let other : same_cell cell k ≡ false = none_passes (same_cell cell) cells v.0 k none get in
     true≢false (sym same ∙ other)
 
@@ -199,7 +209,7 @@ put bank cells new cell at view are may keys stored = by (list_any (same_cell ce
     finds bank' e are' stays adds grows =
         let v : ValueId = record { 0 = at } in
         let is = are'.each at stored.0 stored.1 in
-        let same = cells_same cell stored.0 stored.2 in
+        let same = parts_same cell.sym cell.fields.items stored.0 stored.2 in
         let tree : tree_of bank' v ≡ tree_in bank cell = cell_tree bank' v stored.0 is ∙ ap (λ f. App f (trees_of bank' stored.0.fields.items)) (sym same.0)
         ∙ ap (λ ids. App cell.sym (trees_of bank' ids)) (sym same.1) ∙ stays in
         record {

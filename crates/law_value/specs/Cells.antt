@@ -1,7 +1,9 @@
 -- What the cells of a bank mean: each is a tree over the trees of earlier cells.
-use Rattle.std.specs.Prelude.{◌≡◌, ℕ, ◌<◌, ◌^◌, ◌-◌, List, [], ◌∷◌, ◌++◌, length, min, Some, slice_get}
+use Rattle.std.specs.Prelude.{◌≡◌, ℕ, ◌<◌, ◌^◌, ◌-◌, Bool, ◌==◌, ◌&&◌, List, [], ◌∷◌, ◌++◌, length, min, Some, slice_get}
+use Rattle.std.specs.Cmp.Lexicographic.{pointwise}
 use Rattle.law_sig.specs.Lists.{Each}
 use Rattle.law_sig.specs.Trees.{node_count}
+use Rattle.law_sig.specs.declared.tree.SymId.{SymId}
 use Rattle.law_sig.specs.declared.tree.Tree.{Tree}
 use Rattle.law_sig.specs.declared.tree.Tree.TheVariants.{App}
 use Rattle.law_ids.specs.declared.ids.ValueId.{ValueId}
@@ -19,6 +21,13 @@ trees_after bank (cell ∷ cells) = trees_after (bank ++ tree_in bank cell ∷ [
 
 abbrev pub trees : List Cell → List Tree
 trees cells = trees_after [] cells
+
+-- whether two ids are one, and whether a cell has this symbol and these fields
+abbrev pub same_id : ValueId → ValueId → Bool
+same_id v w = v.0 == w.0
+
+abbrev pub has_parts : SymId → List ValueId → Cell → Bool
+has_parts f ids cell = f.0 == cell.sym.0 && pointwise same_id ids cell.fields.items
 
 -- the cell at a place: its fields are earlier, and its number of nodes is that of its tree
 pub record IsCell (bank : List Tree) (at : ℕ) (cell : Cell) : Type 0 where

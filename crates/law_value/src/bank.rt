@@ -1,9 +1,9 @@
-ghost use Rattle.std.specs.Prelude.{◌≡◌, ℕ, ◌<◌, ◌^◌, ◌+◌, ◌-◌, ◌↔◌, List, [], ◌∷◌, length, map, min, take, drop, slice_get, IfOk, OnOk, OnErr, IsTrue, Some};
+ghost use Rattle.std.specs.Prelude.{◌≡◌, ℕ, ◌<◌, ◌^◌, ◌+◌, ◌-◌, ◌↔◌, List, [], ◌∷◌, length, map, min, take, drop, slice_get, position, IfOk, OnOk, OnErr, IsTrue, Some};
 ghost use Rattle.law_sig.specs.Lists.{Each, total};
 ghost use Rattle.law_sig.specs.Trees.{node_count};
 ghost use Rattle.law_sig.specs.declared.tree.Tree.{Tree};
 ghost use Rattle.law_sig.specs.declared.tree.Tree.TheVariants.{App};
-ghost use Rattle.law_value.specs.Cells.{IsCell};
+ghost use Rattle.law_value.specs.Cells.{IsCell, has_parts};
 ghost use Rattle.law_ids.specs.Tops.{tops};
 ghost use Rattle.law_value.specs.Writing.{piece_of, pieces, IsPartOf, IsOpened, IsAdvanced};
 ghost use Rattle.law_ids.specs.Values.{IsOf, AreOf, tree_of, trees_of, head_of, fields_of, IsShared, Grows, Adds, is_plain};
@@ -16,10 +16,12 @@ use std::marker::Model;
 
 /// A value by its constructor and its fields. The number of its nodes, which these determine, is kept beside them;
 /// it is 2^64 - 1 where it is that or more.
-#[derive(Debug, PartialEq, Eq, Hash, Drop)]
+#[derive(Drop)]
+#[derive_where(Debug, PartialEq, Eq, Hash)]
 struct Cell {
     sym: SymId,
     fields: Vec<ValueId>,
+    #[derive_where(skip(EqHashOrd))]
     nodes: u64,
 }
 
@@ -31,11 +33,13 @@ enum Part {
     Join(SymId, u32),
 }
 
-/// Values, each kept once. Contracts see a bank as the list of its values, each at the place that its id names.
+/// Values, each kept once. Contracts see a bank as the list of its values, each at the place that its id names. `wanted` is
+/// the cell that was looked for last; its room is kept for the next one.
 #[derive(Debug, Drop)]
 pub struct ValueBank {
     alloc: Global,
     cells: IndexSet<Cell>,
+    wanted: Cell,
 }
 
 impl Model for ValueBank {
@@ -62,6 +66,11 @@ impl ValueBank {
         ValueBank {
             alloc,
             cells: IndexSet::new(alloc),
+            wanted: Cell {
+                sym: SymId(0),
+                fields: Vec::new(alloc),
+                nodes: 0,
+            },
         }
     }
 
@@ -140,8 +149,29 @@ impl ValueBank {
         count
     }
 
-    /// The value that a constructor makes of these fields. A value that the bank has already keeps its id.
+    /// The value that a constructor makes of these fields. A value that the bank has already keeps its id, and takes
+    /// no memory but the room in which it is looked for.
     pub fn make(&mut self, sym: SymId, fields: &[ValueId]) -> Result<ValueId, NoMemory>
+        requires held { AreOf self.old fields.now }
+        requires few { length fields.now < 2 ^ 32 }
+        ensures id { IfOk result (λ v. IsOf self.new v) }
+        ensures tree { IfOk result (λ v. tree_of self.new v ≡ App sym (trees_of self.old fields.now)) }
+        ensures adds { OnOk result (Adds self.old self.new (App sym (trees_of self.old fields.now))) }
+        ensures grows { Grows self.old self.new }
+        ensures shared { IsShared self.new }
+        ensures err { OnErr result (self.new ≡ self.old) }
+    {
+        let Ok(known) = find(&self.cells, &mut self.wanted, sym, fields) else {
+            return Err(NoMemory);
+        };
+        match known {
+            Some(place) => Ok(ValueId(place as u64)),
+            None => self.add(sym, fields),
+        }
+    }
+
+    /// The same, with a cell that is made anew.
+    fn add(&mut self, sym: SymId, fields: &[ValueId]) -> Result<ValueId, NoMemory>
         requires held { AreOf self.old fields.now }
         requires few { length fields.now < 2 ^ 32 }
         ensures id { IfOk result (λ v. IsOf self.new v) }
@@ -240,6 +270,23 @@ impl ValueBank {
         }
         Ok(())
     }
+}
+
+/// The place of the cell with these parts, which is looked for by a cell that is made in its own room.
+fn find(
+    cells: &IndexSet<Cell>,
+    wanted: &mut Cell,
+    sym: SymId,
+    fields: &[ValueId],
+) -> Result<Option<usize>, NoMemory>
+    ensures { IfOk result (λ at. at ≡ position (has_parts sym fields.now) cells.now.keys) }
+{
+    wanted.sym = sym;
+    wanted.fields.clear();
+    let Ok(()) = wanted.fields.extend_from_slice(fields) else {
+        return Err(NoMemory);
+    };
+    Ok(cells.get_index_of(&*wanted))
 }
 
 /// Makes one tree of the last ones written, of which the first field is the last.

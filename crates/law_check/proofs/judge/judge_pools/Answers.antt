@@ -1,19 +1,10 @@
-use Rattle.std.proofs.Common.{◌≡◌, List, ◌∙◌, refl, sym, subst}
+use Rattle.std.proofs.Common.{◌∙◌, sym, subst}
 use Rattle.std.specs.List.{AllByRecursion}
 use Rattle.law_cert_text.specs.Certificates.{IsTree}
-use Rattle.law_sig.specs.declared.tree.Tree.{Tree}
-use Rattle.law_sig.specs.declared.parts.SigParts.{SigParts}
-use Rattle.law_ids.specs.Table.{PoolTable}
-use Rattle.law_testing.specs.Values.{ArePools}
-use Rattle.law_testing.specs.Evaluators.{Values, AreReady}
-use Rattle.law_testing.proofs.EvaluatorFacts.{ready_stays}
+use Rattle.law_testing.proofs.EvaluatorFacts.{ready_new, ready_stays}
 use Rattle.law_checking.specs.Steps.{AnswersAll}
 use Rattle.law_checking.proofs.CertFacts.{pools_exact, other_pools, background_fault, all_answered}
 use Rattle.law_check.proofs.judge.judge_pools.Goals as goal
-
--- an evaluator that has just been made
-ready_new : (parts : SigParts) (bank : List Tree) (values : Values) (table : PoolTable) → values ≡ record { parts = parts; bank = bank } → ArePools parts bank table → AreReady parts values table
-ready_new parts bank values table e pools = subst (λ v. AreReady parts v table) (sym e) (record { own = refl; pools = pools })
 
 pub returns-then-not-same : goal.returns-then-not-same
 returns-then-not-same c = other_pools c.args.sig.now c.args.cert.now c.in_ok-same.same c.in_ok-values.values

@@ -3,12 +3,12 @@ use Rattle.law_sig.specs.declared.parts.Settings.{Settings}
 use Rattle.law_draws.specs.Draws.{pools_by}
 use Rattle.law_explore.specs.Refusals.{Breaks, IsFirstAnswer, HasBrokenBackground}
 use Rattle.law_testing.specs.Values.{tests_by}
-use Rattle.law_testing.proofs.Testing.{pools_stay}
+use Rattle.law_testing.proofs.EvaluatorFacts.{ready_stays}
 use Rattle.law_explore.proofs.Breaking.{handed_on, background_breaks}
 use Rattle.law_explore.proofs.background.check_background.Goals as goal
 
 pub check_equation-requires-clause-pools : goal.check_equation-requires-clause-pools
-check_equation-requires-clause-pools c = pools_stay c.args.tester.now.sig.now c.args.bank.now c.loop-at.bank c.args.tester.now.pools.now c.loop-at.invariant.grows c.requires
+check_equation-requires-clause-pools c = ready_stays c.args.tester.now.sig.now c.args.evaluator.now c.loop-at.evaluator c.args.tester.now.pools.now c.loop-at.invariant.extends c.requires
 
 pub returns-in_err-check_equation-clause-breaks : goal.returns-in_err-check_equation-clause-breaks
 returns-in_err-check_equation-clause-breaks c =

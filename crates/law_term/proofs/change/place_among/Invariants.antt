@@ -1,6 +1,6 @@
 use Rattle.std.proofs.Common.{◌≡◌, ◌<◌, ◌^◌, drop}
 use Rattle.law_term.specs.Variables.{place_in}
-use Rattle.law_term.proofs.Listing.{place_on}
+use Rattle.law_term.proofs.Noting.{place_on}
 use Rattle.law_term.proofs.change.place_among.Given as goal
 
 abbrev pub invariant-loop-at : goal.invariant-loop-at

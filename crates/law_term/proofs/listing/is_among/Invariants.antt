@@ -1,4 +1,4 @@
-use Rattle.law_term.proofs.Listing.{AmongFrom}
+use Rattle.law_term.proofs.Noting.{AmongFrom}
 use Rattle.law_term.proofs.listing.is_among.Given as goal
 
 abbrev pub invariant-loop-at : goal.invariant-loop-at

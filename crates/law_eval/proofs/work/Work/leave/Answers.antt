@@ -6,6 +6,6 @@ use Rattle.law_eval.proofs.work.Work.leave.Goals as goal
 
 pub returns-clause-ok : goal.returns-clause-ok
 returns-clause-ok c = record {
-  frame = running c.in-Some._frame;
+  frame = running c.in-Some.frame;
   before = same_ids refl refl (pushed running _ _ _ c.in-Some.ensures.items) refl;
 }

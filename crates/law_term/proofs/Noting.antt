@@ -93,7 +93,7 @@ among_none s i vs at over h k = in_none (subst (λ l. In i (indices s l)) (drop_
 -- The place of a variable among others
 
 module _ (s : SortId) (i : ℕ) where
-  abbrev place_on : ℕ → List Variable → ℕ
+  abbrev pub place_on : ℕ → List Variable → ℕ
   place_on place vs = min (place + place_of i (indices s vs)) (2 ^ 32 - 1)
 
   place_here : (v : Variable) (vs : List Variable) → (same_sort v.0 s && (v.1 == i)) ≡ true → place_of i (indices s (v ∷ vs)) ≡ 0
@@ -237,6 +237,13 @@ listing_start bank terms h = record {
   once = λ s. refl;
   whole = λ s. ap firsts (entered_left s terms);
 }
+
+pub listing_begun : (bank : Terms) (terms : List (Bor Node)) → AllOf bank terms → (done : Done) (none visits : List Visit) (vs : List Variable)
+    → done ≡ [] → none ≡ [] → visits ≡ none ++ entered terms → vs ≡ [] → IsListing bank terms done visits vs
+listing_begun bank terms h done none visits vs a b c d =
+    subst (λ z. IsListing bank terms z visits vs) (sym a)
+    (subst (λ z. IsListing bank terms [] z vs) (sym (c ∙ ap (λ l. l ++ entered terms) b))
+    (subst (λ z. IsListing bank terms [] (entered terms) z) (sym d) (listing_start bank terms h)))
 
 module _ (bank : Terms) (terms : List (Bor Node)) (done : Done) (before rest : List Visit) (n : Bor Node) (vs : List Variable) (w : IsListing bank terms done before vs) where
   module _ (is : before ≡ rest ++ visit.Enter n ∷ []) where

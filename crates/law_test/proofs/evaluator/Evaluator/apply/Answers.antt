@@ -2,7 +2,7 @@ use Rattle.std.proofs.Common.{subst}
 use Rattle.law_test.specs.Memo.{Gives}
 use Rattle.law_testing.specs.Evaluators.{Values}
 use Rattle.law_test.proofs.Evaluating.{known_gives}
-use Rattle.law_test.proofs.evaluator.Evaluator.given.Goals as goal
+use Rattle.law_test.proofs.evaluator.Evaluator.apply.Goals as goal
 
 pub returns-in-Some-get-clause-gives : goal.returns-in-Some-get-clause-gives
 returns-in-Some-get-clause-gives c =

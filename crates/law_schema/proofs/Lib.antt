@@ -1,0 +1,10 @@
+pub mod RuleFacts
+pub mod ColumnFacts
+pub mod Seeking
+pub mod Filing
+pub mod Housing
+pub mod Items
+pub mod Making
+pub mod Filling
+pub mod Sounding
+pub mod Calls
