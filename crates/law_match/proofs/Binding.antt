@@ -1,5 +1,5 @@
 -- A variable is bound to a term, in two terms and in all that is bound.
-use Rattle.std.proofs.Common.{◌≡◌, ◌≢◌, ℕ, ◌+◌, ◌≤◌, ◌<◌, ◌⊎◌, inl, inr, List, [], ◌∷◌, ◌++◌, length, map, drop, slice_index_or, append-nil, append_assoc, Option, Some, None, ap, ap₂, sym, ◌∙◌, refl, subst, arith}
+use Rattle.std.proofs.Common.{◌≡◌, ◌≢◌, ℕ, ◌+◌, ◌≤◌, ◌<◌, ◌⊎◌, inl, inr, List, [], ◌∷◌, ◌++◌, length, map, drop, slice_index_or, append-nil, append_assoc, Option, Some, None, MatchOption, ap, ap₂, sym, ◌∙◌, refl, subst, arith}
 use Rattle.std.proofs.lemmas.List.{drop_more, drop_all, map-append}
 use denote.Bor.{Bor}
 use Rattle.law_sig.specs.Lists.{In, Each}
@@ -11,12 +11,12 @@ use Rattle.law_sig.specs.declared.chain.Bind.{Bind}
 use Rattle.law_laws.proofs.ListFacts.{each_map, each_both, of_each}
 use Rattle.law_laws.proofs.TreeFacts.{substituted_itself}
 use Rattle.law_rewriting.specs.Heads.{Sorts, head_sort}
-use Rattle.law_rewriting.specs.Unifiers.{NoUnifier}
+use Rattle.law_rewriting.specs.Unifiers.{NoUnifier, AreUnifier}
 use Rattle.law_rewriting.specs.UnifyingState.{single, put_bind, put_binds, bound_more, IsOpen}
 use Rattle.law_rewriting.proofs.Falling.{has_bind, untested, binding_falls}
 use Rattle.law_rewriting.proofs.Heads.{head-Var}
 use Rattle.law_rewriting.proofs.Putting.{single_own, single_rests}
-use Rattle.law_rewriting.proofs.Turns.{bind_turn, stuck, other_sort, occurs}
+use Rattle.law_rewriting.proofs.Turns.{bind_turn, stuck, other_sort, occurs, all_done, same_turn}
 use Rattle.law_rewriting.proofs.Variables.{in_decided, agreed}
 use Rattle.law_rewriting.proofs.Vars.{vars}
 use Rattle.law_bank.specs.declared.node.Node.{Node, out-Node}
@@ -24,7 +24,7 @@ use Rattle.law_bank.specs.Terms.{tree_of, id_of}
 use Rattle.law_bank.specs.Bank.{Terms, IsOf, IsShared, Grows, sorts_by}
 use Rattle.law_bank.specs.Bindings.{Binding, bind_of, binds_of, subst_of, AllBound}
 use Rattle.law_bank.proofs.BankFacts.{stays, grows_on, same_tree, same_id}
-use Rattle.law_match.specs.declared.unify.Pair.{Pair}
+use Rattle.law_match.specs.declared.unifier.Pair.{Pair}
 use Rattle.law_match.specs.Unifying.{Opens, IsBound, AreHeld}
 use Rattle.law_match.proofs.Items.{in_at}
 
@@ -73,7 +73,7 @@ module _ (s : SortId) (i : ℕ) (term : Bor Node) (bs : List Binding) where
   module _ (at : ℕ) (d : Binding) (h : at < length bs) (more new : List Binding) (image : Bor Node)
       (is : tree_of image.now ≡ substituted (single s i (tree_of term.now)) (tree_of (slice_index_or bs at d).2.now))
       (pushed : new ≡ more ++ ((slice_index_or bs at d).0, (slice_index_or bs at d).1, image) ∷ []) where
-    one : Binding
+    abbrev one : Binding
     one = ((slice_index_or bs at d).0, (slice_index_or bs at d).1, image)
 
     one_is : bind_of one ≡ put_bind (single s i (tree_of term.now)) (bind_of (slice_index_or bs at d))
@@ -112,3 +112,18 @@ module _ (r : Sorts) (a b : Tree) (old : Pair) (bs cs : List Bind) (s : SortId) 
     pub falls_then : untested (has_bind cs) (vars a ++ vars b) < untested (has_bind bs) (vars a ++ vars b)
     falls_then = subst (λ z. untested (has_bind z) (vars a ++ vars b) < untested (has_bind bs) (vars a ++ vars b)) (sym w.binds)
         (binding_falls r a b s i t ((tree_of old.left.now, tree_of old.right.now) ∷ []) bs (o r a b bs g) w.absent w.sorted)
+
+-- what the binding of a variable gave, in the sorts of an earlier bank
+module _ (r q : Sorts) (same : q ≡ r) (s : SortId) (i : ℕ) (t : Tree) (old : Pair) (bs cs : List Bind) (o : Option Pair)
+    (m : MatchOption o (NoUnifier q (Var s i) t) (IsBound q s i t old bs cs)) where
+  pub no_next : o ≡ None → NoUnifier r (Var s i) t
+  no_next e = subst (λ z. NoUnifier z (Var s i) t) same (subst (λ z. MatchOption z (NoUnifier q (Var s i) t) (IsBound q s i t old bs cs)) e m)
+
+  pub is_next : (new : Pair) → o ≡ Some new → IsBound r s i t old bs cs new
+  is_next new e = subst (λ z. IsBound z s i t old bs cs new) same (subst (λ z. MatchOption z (NoUnifier q (Var s i) t) (IsBound q s i t old bs cs)) e m)
+
+-- two terms that became one
+pub unified : (r : Sorts) (a b : Tree) (bank : Terms) (p : Pair) (bs : List Bind) → IsOf bank p.left.now → IsOf bank p.right.now → id_of p.left.now ≡ id_of p.right.now
+    → IsOpen r a b ((tree_of p.left.now, tree_of p.right.now) ∷ []) bs → AreUnifier r a b bs
+unified r a b bank p bs left right e g =
+    all_done r a b bs (same_turn r a b (tree_of p.right.now) [] bs (subst (λ z. IsOpen r a b ((z, tree_of p.right.now) ∷ []) bs) (same_tree bank p.left.now p.right.now left right e) g))

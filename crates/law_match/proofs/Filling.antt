@@ -1,5 +1,6 @@
 -- Variables that a match leaves, one after another.
-use Rattle.std.proofs.Common.{◌≡◌, ◌↔◌, ℕ, ◌+◌, ◌≤◌, ◌<◌, ◌⊎◌, inl, inr, Bool, true, false, true≢false, if◌then◌else◌, List, [], ◌∷◌, ◌++◌, length, map, take, slice_index_or, ap, sym, ◌∙◌, refl, subst, arith}
+use Rattle.std.proofs.Common.{◌≡◌, ◌↔◌, ℕ, ◌+◌, ◌≤◌, ◌<◌, ◌⊎◌, inl, inr, Bool, true, false, true≢false, if◌then◌else◌, List, [], ◌∷◌, ◌++◌, length, map, take, Option, None, Some, MatchOption, slice_index_or, ap, sym, ◌∙◌, refl, subst, arith}
+use Rattle.std.specs.Option.{is_some}
 use Rattle.std.proofs.lemmas.List.{take_more, take_all, map-append}
 use denote.Bor.{Bor}
 use Rattle.law_sig.specs.Lists.{In}
@@ -16,7 +17,7 @@ use Rattle.law_bank.specs.Bindings.{Binding, bind_of, subst_of, AreRising, with_
 use Rattle.law_bank.proofs.BindingFacts.{put_value}
 use Rattle.law_term.specs.Substs.{variable_of, IsBound, IsFree}
 use Rattle.law_match.specs.Filled.{Binds, AreFilled}
-use Rattle.law_match.proofs.Variables.{put_variable, variables_kept, variable_put}
+use Rattle.law_match.proofs.Putting.{put_variable, variables_kept, variable_put}
 
 pub filling_starts : (matched : List Binding) → AreFilled matched [] matched
 filling_starts matched = record {
@@ -82,7 +83,7 @@ module _ (matched before binds : List Binding) (v : Binding) (w : AreFilled matc
 
   -- it isn't, and gets the first variable of its sort
   module _ (free : IsFree binds v.0 v.1) (rising : AreRising binds) (first : Bor Node) (is : tree_of first.now ≡ Var v.0 0) (new : List Binding) (e : new ≡ with_binding (v.0, v.1, first) binds) where
-    own : Binding
+    abbrev own : Binding
     own = (v.0, v.1, first)
 
     other : (sort : SortId) (index : ℕ) → Binds binds sort index → subst_of (with_binding own binds) sort index ≡ subst_of binds sort index
@@ -138,6 +139,17 @@ pub next_new : (matched variables binds : List Binding) (at : ℕ) (d : Binding)
     → (new : List Binding) → new ≡ with_binding ((slice_index_or variables at d).0, (slice_index_or variables at d).1, first) binds → AreFilled matched (take (at + 1) variables) new
 next_new matched variables binds at d h w free rising first is new e =
     subst (λ l. AreFilled matched l new) (sym (take_more variables at d h)) (filling_new matched (take at variables) binds (slice_index_or variables at d) w free rising first is new e)
+
+-- what was looked up decides
+pub next_found : (matched variables binds : List Binding) (at : ℕ) (d : Binding) → at < length variables → AreFilled matched (take at variables) binds → (o : Option (Bor Node))
+    → MatchOption o (IsFree binds (slice_index_or variables at d).0 (slice_index_or variables at d).1) (IsBound binds (slice_index_or variables at d).0 (slice_index_or variables at d).1) → is_some o ≡ true
+    → AreFilled matched (take (at + 1) variables) binds
+next_found matched variables binds at d h w None m e = cc
+next_found matched variables binds at d h w (Some t) m e = next_known matched variables binds at d h w t m
+
+pub free_then : (binds : List Binding) (sort : SortId) (index : ℕ) (o : Option (Bor Node)) → MatchOption o (IsFree binds sort index) (IsBound binds sort index) → is_some o ≡ false → IsFree binds sort index
+free_then binds sort index None m e = m
+free_then binds sort index (Some t) m e = cc
 
 pub filling_ends : (matched variables binds : List Binding) (at : ℕ) → length variables ≤ at → AreFilled matched (take at variables) binds → AreFilled matched variables binds
 filling_ends matched variables binds at over w = subst (λ l. AreFilled matched l binds) (take_all at variables over) w

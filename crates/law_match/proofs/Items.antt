@@ -1,5 +1,5 @@
 -- Items of lists.
-use Rattle.std.proofs.Common.{◌≡◌, ℕ, zero, suc, ◌+◌, ◌<◌, ◌⊎◌, inl, inr, List, [], ◌∷◌, length, map, drop, slice_index_or, ap, sym, subst, arith}
+use Rattle.std.proofs.Common.{◌≡◌, ℕ, zero, suc, ◌+◌, ◌<◌, ◌⊎◌, inl, inr, List, [], ◌∷◌, length, map, drop, slice_index_or, ap, sym, refl, subst, arith}
 use Rattle.std.proofs.lemmas.List.{drop_more}
 use Rattle.law_sig.specs.Lists.{In}
 use Rattle.law_sig.specs.Lists.In.{here, there}
@@ -24,3 +24,7 @@ made_from f (x ∷ xs) y at = by (in_rest at) (made_from f xs y)
     by : (y ≡ f x) ⊎ In y (map f xs) → (In y (map f xs) → Made f xs y) → Made f (x ∷ xs) y
     by (inl e) later = record { item = x; at = here; is = sym e }
     by (inr k) later = let m = later k in record { item = m.item; at = there m.at; is = m.is }
+
+pub nothing_left : {A : Type 0} (xs : List A) → length xs ≡ 0 → xs ≡ []
+nothing_left [] e = refl
+nothing_left (x ∷ xs) e = absurd (omega (arith, e))

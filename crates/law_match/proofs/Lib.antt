@@ -2,6 +2,6 @@ pub mod Items
 pub mod Opening
 pub mod Binding
 pub mod Ordering
-pub mod Variables
+pub mod Putting
 pub mod Searching
 pub mod Filling

@@ -22,9 +22,9 @@ use Rattle.law_bank.specs.declared.node.Node.{Node, out-Node}
 use Rattle.law_bank.specs.Terms.{tree_of, trees_of, id_of, ids_of}
 use Rattle.law_bank.specs.Bank.{Terms, IsOf, AllOf, IsShared}
 use Rattle.law_bank.proofs.BankFacts.{var_tree, sym_tree, same_id, below, key_tree}
-use Rattle.law_match.specs.declared.unify.Pair.{Pair}
-use Rattle.law_match.specs.declared.unify.Difference.{Difference}
-use Rattle.law_match.specs.declared.unify.Difference.TheVariants as difference
+use Rattle.law_match.specs.declared.unifier.Pair.{Pair}
+use Rattle.law_match.specs.declared.unifier.Difference.{Difference}
+use Rattle.law_match.specs.declared.unifier.Difference.TheVariants as difference
 use Rattle.law_match.specs.Unifying.{AreOther, Opens, IsAt, IsDifference}
 use Rattle.law_match.proofs.Items.{in_at}
 

@@ -56,6 +56,16 @@ ordering_goes bs made new left at d is within o e rising = record {
     by b (inl q) = subst (λ z. In z bs) (sym q) (in_at bs at d within)
     by b (inr k) = o.only b k
 
+pub ordering_next : (bs made new : List Binding) (after : ℕ) (d : Binding) → after < length bs → IsOrdering bs made (length bs - after)
+    → new ≡ with_binding (slice_index_or bs (length bs - 1 - after) d) made → AreRising new → IsOrdering bs new (length bs - (after + 1))
+ordering_next bs made new after d h o e rising = subst (IsOrdering bs new) same (ordering_goes bs made new (length bs - after) (length bs - 1 - after) d left (omega (arith, h)) o e rising)
+  where
+    same : length bs - 1 - after ≡ length bs - (after + 1)
+    same = omega arith
+
+    left : length bs - after ≡ (length bs - 1 - after) + 1
+    left = omega (arith, h)
+
 pub ordering_ends : (bs made : List Binding) (left : ℕ) → left ≡ 0 → IsOrdering bs made left → AreOrdered bs made
 ordering_ends bs made left e o = record {
   same = λ sort index. sym (ap (λ k. both (take k bs) made sort index) e) ∙ o.same sort index;

@@ -1,5 +1,5 @@
 -- A walk over the different nodes of two terms finds their variables.
-use Rattle.std.proofs.Common.{◌≡◌, ℕ, ◌+◌, ◌≤◌, ◌<◌, ◌==◌, ◌⊎◌, inl, inr, Bool, true, false, if◌then◌else◌, List, [], ◌∷◌, ◌++◌, length, map, Some, slice_get, ap, sym, ◌∙◌, refl, subst, arith, rules}
+use Rattle.std.proofs.Common.{◌≡◌, ℕ, ◌+◌, ◌≤◌, ◌<◌, ◌==◌, ◌⊎◌, inl, inr, Bool, true, false, not, if◌then◌else◌, List, [], ◌∷◌, ◌++◌, length, map, Some, slice_get, ap, sym, ◌∙◌, refl, subst, arith, rules}
 use Rattle.std.specs.List.{list_any}
 use Rattle.std.proofs.lemmas.List.{map-append}
 use denote.Bor.{Bor}
@@ -26,7 +26,7 @@ use Rattle.law_bank.proofs.BindingFacts.{put_in}
 use Rattle.law_term.specs.Substs.{variable_of}
 use Rattle.law_match.specs.Visited.{AreVariables, with_id, Search, IsSeen, IsFound, IsOpened, IsVisited, IsMet, IsNamed, IsOwn, IsSearching}
 use Rattle.law_match.proofs.Items.{Made, made_from}
-use Rattle.law_match.proofs.Variables.{put_variable, variables_kept}
+use Rattle.law_match.proofs.Putting.{put_variable, variables_kept}
 
 -- Ids
 
@@ -39,16 +39,20 @@ any_is n (m ∷ ns) e = by (n == m) refl (any_is n ns)
     by false other later = there (later (search rules))
 
 -- an id that isn't new was seen
-pub was_seen : (is_new : Bool) (seen : List ℕ) (id : ℕ) → list_any (λ n. id == n) seen ≡ true → In id seen
-was_seen is_new seen id e = any_is id seen e
+pub was_seen : (is_new : Bool) (seen : List ℕ) (id : ℕ) → is_new ≡ not (list_any (λ n. id == n) seen) → is_new ≡ false → In id seen
+was_seen is_new seen id e n = any_is id seen (by (list_any (λ n. id == n) seen) (sym e ∙ n))
+  where
+    by : (b : Bool) → not b ≡ false → b ≡ true
+    by true q = refl
+    by false q = cc
 
 module _ (seen : List ℕ) (id : ℕ) where
   by_any : (P : List ℕ → Type 0) → (list_any (λ n. id == n) seen ≡ true → P seen) → P (seen ++ id ∷ []) → P (with_id seen id)
-  by_any P yes no' = by (list_any (λ n. id == n) seen) refl
+  by_any P known fresh = by (list_any (λ n. id == n) seen) refl
     where
       by : (b : Bool) → list_any (λ n. id == n) seen ≡ b → P (if b then seen else seen ++ id ∷ [])
-      by true e = yes e
-      by false e = no'
+      by true e = known e
+      by false e = fresh
 
   id_of_with : (j : ℕ) → In j (with_id seen id) → In j seen ⊎ (j ≡ id)
   id_of_with j = by_any (λ l. In j l → In j seen ⊎ (j ≡ id)) (λ e at. inl at) (λ at. by (in_split seen (id ∷ []) at))

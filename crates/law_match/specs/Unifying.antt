@@ -14,9 +14,9 @@ use Rattle.law_bank.specs.declared.node.Node.{Node}
 use Rattle.law_bank.specs.Terms.{tree_of, trees_of, id_of}
 use Rattle.law_bank.specs.Bank.{Terms, IsOf, AllOf}
 use Rattle.law_bank.specs.Bindings.{Binding, binds_of, AllBound, subst_of}
-use Rattle.law_match.specs.declared.unify.Pair.{Pair}
-use Rattle.law_match.specs.declared.unify.Difference.{Difference}
-use Rattle.law_match.specs.declared.unify.Difference.TheVariants as difference
+use Rattle.law_match.specs.declared.unifier.Pair.{Pair}
+use Rattle.law_match.specs.declared.unifier.Difference.{Difference}
+use Rattle.law_match.specs.declared.unifier.Difference.TheVariants as difference
 
 -- Where two terms differ
 
@@ -54,10 +54,10 @@ pub record IsBound (r : Sorts) (sort : SortId) (index : ℕ) (t : Tree) (old : P
   pub absent : In index (holes sort t) → ⊥
 
 -- the two terms and the bindings are of the bank
-pub record AreHeld (bank : Terms) (p : Pair) (bound : List Binding) : Type 0 where
+pub record AreHeld (bank : Terms) (p : Pair) (bindings : List Binding) : Type 0 where
   pub left : IsOf bank p.left.now
   pub right : IsOf bank p.right.now
-  pub bound : AllBound bank bound
+  pub bound : AllBound bank bindings
 
 -- The bindings in order
 

@@ -2,13 +2,13 @@
 //! from. Matching is handed on.
 #![tactic(auto)]
 
-mod directed;
-mod filled;
-mod unify;
-mod variables;
+mod direction;
+mod fill;
+mod unifier;
+mod search;
 
-pub use directed::directed;
-pub use filled::filled;
+pub use direction::directed;
+pub use fill::filled;
 pub use law_term::matches;
-pub use unify::unify;
-pub use variables::variables;
+pub use unifier::unify;
+pub use search::variables;

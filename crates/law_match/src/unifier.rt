@@ -42,7 +42,7 @@ fn first_other<'a>(lefts: &[Term<'a>], rights: &[Term<'a>]) -> Option<Pair<'a>>
 }
 
 /// What is to be done where two different terms differ first, on the way down from the left.
-fn difference<'a>(bank: &TermBank<'a>, left: Term<'a>, right: Term<'a>) -> Difference<'a>
+fn first_difference<'a>(bank: &TermBank<'a>, left: Term<'a>, right: Term<'a>) -> Difference<'a>
     requires left { IsOf bank.now left.now }
     requires right { IsOf bank.now right.now }
     requires other { id_of left.now ≢ id_of right.now }
@@ -187,7 +187,7 @@ pub fn unify<'a>(
     let mut bound = Vec::new(bank.alloc());
     let mut pair = Pair { left: a, right: b };
     while pair.left.id != pair.right.id {
-        match difference(bank, pair.left, pair.right) {
+        match first_difference(bank, pair.left, pair.right) {
             Difference::Clash => return Ok(None),
             Difference::Bind(sort, index, term) => {
                 let Some(next) = bind(bank, &mut bound, pair.left, pair.right, sort, index, term)?

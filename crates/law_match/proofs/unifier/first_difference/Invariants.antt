@@ -1,7 +1,7 @@
 use Rattle.law_sig.specs.Trees.{node_count}
 use Rattle.law_bank.specs.Terms.{tree_of}
 use Rattle.law_match.specs.Unifying.{IsAt}
-use Rattle.law_match.proofs.unify.difference.Given as goal
+use Rattle.law_match.proofs.unifier.first_difference.Given as goal
 
 abbrev pub invariant-loop-pair : goal.invariant-loop-pair
 invariant-loop-pair l = IsAt l.bank (tree_of l.left) (tree_of l.right) l.pair

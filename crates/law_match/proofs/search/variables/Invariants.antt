@@ -3,7 +3,7 @@ use Rattle.law_bank.specs.Bank.{Terms, IsOf}
 use Rattle.law_bank.specs.Bindings.{AreRising}
 use Rattle.law_match.specs.Visited.{IsSearching}
 use Rattle.law_match.proofs.Searching.{left_nodes}
-use Rattle.law_match.proofs.variables.variables.Given as goal
+use Rattle.law_match.proofs.search.variables.Given as goal
 
 abbrev pub invariant-loop-term : goal.invariant-loop-term
 invariant-loop-term l = record {

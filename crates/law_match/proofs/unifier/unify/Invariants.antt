@@ -6,7 +6,7 @@ use Rattle.law_bank.specs.Terms.{tree_of}
 use Rattle.law_bank.specs.Bank.{Grows, sorts_by}
 use Rattle.law_bank.specs.Bindings.{binds_of}
 use Rattle.law_match.specs.Unifying.{AreHeld}
-use Rattle.law_match.proofs.unify.unify.Given as goal
+use Rattle.law_match.proofs.unifier.unify.Given as goal
 
 abbrev pub invariant-loop-pair : goal.invariant-loop-pair
 invariant-loop-pair l = record {
