@@ -19,7 +19,7 @@ use Rattle.law_bank.specs.Bindings.{Binding, binds_of}
 use Rattle.law_proof.specs.declared.kept.Kept.{Kept}
 use Rattle.law_proof.specs.Log.{kept_of, equations_in}
 use Rattle.law_pairs.specs.declared.pair.Pair as pair
-use Rattle.law_pairs.specs.Overlapping.{SuitsLog}
+use Rattle.law_rewrite.specs.Rewriting.{IsSignatureOf}
 use Rattle.law_pairs.specs.Walk.{named}
 
 -- An instance of an equation
@@ -36,9 +36,9 @@ IsNoInstance r q s t = (σ : Subst) → KeepsHeads r σ → substituted σ q.lef
 
 -- A pair
 
--- it is a pair by every signature with the weights and sorts of the bank
+-- it is a pair by every signature of the bank
 abbrev pub IsPairIn : Terms → List Kept → pair.Pair → Type 0
-IsPairIn bank log p = (parts : SigParts) → SuitsLog parts bank log → IsPair parts (equations_in log) (named p)
+IsPairIn bank log p = (parts : SigParts) → IsSignatureOf parts bank → IsPair parts (equations_in log) (named p)
 
 -- steps lead from one term to another by equations
 abbrev pub Lead : Terms → List Kept → List plain.Step → Tree → Tree → Type 0

@@ -10,13 +10,13 @@ use Rattle.law_rewriting.specs.Pairs.{PairName, Exceeds, IsItem, IsEnd}
 use Rattle.law_rewriting.specs.Completion.{equations_of, State, Takes, Saturated, Spent, Aside, Advances, IsJoin}
 use Rattle.law_bank.specs.Terms.{tree_of}
 use Rattle.law_bank.specs.Bank.{Terms}
-use Rattle.law_index.specs.Index.{IsBankOf}
 use Rattle.law_proof.specs.declared.kept.Kept.{Kept}
 use Rattle.law_proof.specs.declared.kept.Chain.{Chain}
 use Rattle.law_proof.specs.Log.{AllKept, kept_in, equations_in, steps_of}
+use Rattle.law_rewrite.specs.Rewriting.{IsSignatureOf}
 use Rattle.law_pairs.specs.declared.pair.Pair.{Pair}
 use Rattle.law_pairs.specs.Names.{name_of}
-use Rattle.law_pairs.specs.Overlapping.{AreAllLight, SuitsLog}
+use Rattle.law_pairs.specs.Overlapping.{AreAllLight}
 use Rattle.law_pairs.specs.Walk.{Walk, new_walk, Fits, named, IsPairOf}
 use Rattle.law_complete.specs.declared.halt.Halt.{Halt}
 use Rattle.law_complete.specs.declared.halt.Halt.TheVariants as halt
@@ -50,13 +50,13 @@ abbrev pub WeighAtMostFour : Terms → Type 0
 WeighAtMostFour bank = Each (λ w. w ≤ 4) bank.weights
 
 -- a completion of this bank: all terms are, no side weighs more than 65,536, no symbol more than 4, and it is under way by every
--- signature with the weights and sorts of the bank
+-- signature of the bank
 pub record IsCompletionOf (bank : Terms) (c : Completed) : Type 0 where
   pub kept : AllKept bank c.log
   pub light : AreAllLight c.log
   pub weights : WeighAtMostFour bank
   pub held : MatchOption c.held (Unit {0}) (IsPairOf bank)
-  pub under_way : (parts : SigParts) → SuitsLog parts bank c.log → IsUnderWay parts c
+  pub under_way : (parts : SigParts) → IsSignatureOf parts bank → IsUnderWay parts c
 
 -- Taking pairs
 
@@ -106,12 +106,6 @@ pub record TookSome (parts : SigParts) (s : State) (q : ℕ) (e : State) : Type 
   pub takes : TakesMany parts taken s e
 
 -- Joining
-
--- a signature for the symbols of all equations and of two terms
-pub record SuitsGoal (parts : SigParts) (bank : Terms) (log : List Kept) (s t : Tree) : Type 0 where
-  pub log : SuitsLog parts bank log
-  pub left : IsBankOf parts bank s
-  pub right : IsBankOf parts bank t
 
 abbrev pub JoinNot : SigParts → List Kept → Tree → Tree → Type 0
 JoinNot parts log s t = (steps : List Step) → IsJoin parts (kept_in log) s t steps → ⊥

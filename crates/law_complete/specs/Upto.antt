@@ -1,5 +1,5 @@
 -- The first equations of a log in an index.
-use Rattle.std.specs.Prelude.{◌≡◌, ℕ, suc, ◌≤◌, List, [], ◌∷◌, ◌++◌, length, take, Bool, if◌then◌else◌}
+use Rattle.std.specs.Prelude.{◌≡◌, ℕ, suc, ◌≤◌, List, [], ◌∷◌, ◌++◌, length, take, Bool, true, if◌then◌else◌}
 use Rattle.law_proof.specs.declared.kept.Kept.{Kept}
 use Rattle.law_proof.specs.declared.kept.Kept.TheVariants.{Background, Law, Lemma}
 use Rattle.law_proof.specs.Log.{eqn_of}
@@ -22,6 +22,10 @@ entry_of lemmas n (Lemma q chain) = if lemmas then (record { 0 = n }, q) ∷ [] 
 abbrev pub entries_from : Bool → ℕ → List Kept → List Entry
 entries_from lemmas n [] = []
 entries_from lemmas n (k ∷ ks) = entry_of lemmas (suc n) k ++ entries_from lemmas (suc n) ks
+
+-- all equations of a log
+abbrev pub entries_in : List Kept → List Entry
+entries_in log = entries_from true 0 log
 
 -- exactly the first so many equations are in the index
 pub record AreUpto (log : List Kept) (r : Rules) : Type 0 where

@@ -8,15 +8,18 @@ ghost use Rattle.law_bank.specs.Terms.{tree_of};
 ghost use Rattle.law_bank.specs.Bank.{Terms, IsOf, Grows};
 ghost use Rattle.law_match.specs.Directed.{IsEqnOf};
 ghost use Rattle.law_proof.specs.Log.{eqn_of, IsChainOf};
-ghost use Rattle.law_pairs.specs.Overlapping.{AreLight, SuitsLog};
+ghost use Rattle.law_pairs.specs.Overlapping.{AreLight};
 ghost use Rattle.law_pairs.specs.Walk.{named, IsPairOf};
-ghost use Rattle.law_complete.specs.Upto.{IsLemma};
-ghost use Rattle.law_complete.specs.States.{Completed, new_completion, state_of, WeighAtMostFour, IsCompletionOf, IsFound, TookNext, AtEnd, Halted, TookSome, SuitsGoal, JoinNot, JoinBy};
+ghost use Rattle.law_rewrite.specs.Finding.{AreNormal};
+ghost use Rattle.law_rewrite.specs.Rewriting.{IsSignatureOf};
+ghost use Rattle.law_complete.specs.Upto.{IsLemma, entries_in};
+ghost use Rattle.law_complete.specs.States.{Completed, new_completion, state_of, WeighAtMostFour, IsCompletionOf, IsFound, TookNext, AtEnd, Halted, TookSome, JoinNot, JoinBy};
 
 use super::halt::Halt;
 use super::lemma::lemma;
 use super::meet::meet;
 use super::rules::{Rules, catch_up, no_rules};
+use indexmap::IndexSet;
 use law_pairs::{Pair, PairId, PairWalk};
 use law_proof::{Chain, EqId, Kept, ProofLog};
 use law_sig::NoMemory;
@@ -101,7 +104,7 @@ impl<'a> Completion<'a> {
     /// Finds the pair that is next, unless it was found before; false where none is left.
     fn find(&mut self, bank: &mut TermBank<'a>) -> Result<bool, NoMemory>
         requires { IsCompletionOf bank.old self.old }
-        ensures found { IfOk result (λ found. (parts : SigParts) → SuitsLog parts bank.old self.old.log → IsFound parts self.new found) }
+        ensures found { IfOk result (λ found. (parts : SigParts) → IsSignatureOf parts bank.old → IsFound parts self.new found) }
         ensures same { state_of self.new ≡ state_of self.old }
         ensures log { self.new.log ≡ self.old.log }
         ensures held { IsCompletionOf bank.new self.new }
@@ -115,11 +118,16 @@ impl<'a> Completion<'a> {
     }
 
     /// Takes the pair that was found: one of more than 64 nodes is set aside, and of any other the lemma is kept where there is one.
-    fn take_found(&mut self, bank: &mut TermBank<'a>) -> Result<(), NoMemory>
-        requires { IsCompletionOf bank.old self.old }
-        ensures took { OnOk result ((parts : SigParts) → SuitsLog parts bank.old self.old.log → IsFound parts self.old true → Takes parts (state_of self.old) (state_of self.new)) }
+    fn take_found(
+        &mut self,
+        bank: &mut TermBank<'a>,
+        known: &mut IndexSet<u64>,
+    ) -> Result<(), NoMemory>
+        requires completion { IsCompletionOf bank.old self.old }
+        requires known { AreNormal bank.old (entries_in self.old.log) known.old.keys }
+        ensures known { AreNormal bank.new (entries_in self.new.log) known.new.keys }
+        ensures took { OnOk result ((parts : SigParts) → IsSignatureOf parts bank.old → IsFound parts self.old true → Takes parts (state_of self.old) (state_of self.new)) }
         ensures err { OnErr result (self.new ≡ self.old) }
-        ensures suits { (parts : SigParts) → SuitsLog parts bank.old self.old.log → SuitsLog parts bank.new self.new.log }
         ensures held { IsCompletionOf bank.new self.new }
         ensures grows { Grows bank.old bank.new }
     {
@@ -135,19 +143,25 @@ impl<'a> Completion<'a> {
             return Ok(());
         }
         catch_up(&mut self.all, &self.log)?;
-        if let Some(found) = lemma(bank, &self.log, &self.all.index, pair)? {
+        if let Some(found) = lemma(bank, &self.log, &self.all.index, known, pair)? {
             let _number = self.log.add(found)?;
+            *known = IndexSet::new(self.alloc);
         }
         self.held = None;
         Ok(())
     }
 
     /// Takes the next pair; false where none is left.
-    fn take(&mut self, bank: &mut TermBank<'a>) -> Result<bool, NoMemory>
-        requires { IsCompletionOf bank.old self.old }
-        ensures took { IfOk result (λ went. (parts : SigParts) → SuitsLog parts bank.old self.old.log → TookNext parts (state_of self.old) (state_of self.new) went) }
+    fn take(
+        &mut self,
+        bank: &mut TermBank<'a>,
+        known: &mut IndexSet<u64>,
+    ) -> Result<bool, NoMemory>
+        requires completion { IsCompletionOf bank.old self.old }
+        requires known { AreNormal bank.old (entries_in self.old.log) known.old.keys }
+        ensures known { AreNormal bank.new (entries_in self.new.log) known.new.keys }
+        ensures took { IfOk result (λ went. (parts : SigParts) → IsSignatureOf parts bank.old → TookNext parts (state_of self.old) (state_of self.new) went) }
         ensures err { OnErr result (state_of self.new ≡ state_of self.old) }
-        ensures suits { (parts : SigParts) → SuitsLog parts bank.old self.old.log → SuitsLog parts bank.new self.new.log }
         ensures held { IsCompletionOf bank.new self.new }
         ensures grows { Grows bank.old bank.new }
     {
@@ -155,7 +169,7 @@ impl<'a> Completion<'a> {
         if !found {
             return Ok(false);
         }
-        self.take_found(bank)?;
+        self.take_found(bank, known)?;
         Ok(true)
     }
 
@@ -175,14 +189,14 @@ impl<'a> Completion<'a> {
     /// Takes so many pairs, or all that are left. After a refusal what was taken so far is kept, and the pair at work is still next.
     pub fn advance(&mut self, bank: &mut TermBank<'a>, pairs: u32) -> Result<Halt, NoMemory>
         requires { IsCompletionOf bank.old self.old }
-        ensures halted { IfOk result (λ halt. (parts : SigParts) → SuitsLog parts bank.old self.old.log → Halted parts (state_of self.old) pairs (state_of self.new) halt) }
-        ensures refused { OnErr result ((parts : SigParts) → SuitsLog parts bank.old self.old.log → TookSome parts (state_of self.old) pairs (state_of self.new)) }
-        ensures suits { (parts : SigParts) → SuitsLog parts bank.old self.old.log → SuitsLog parts bank.new self.new.log }
+        ensures halted { IfOk result (λ halt. (parts : SigParts) → IsSignatureOf parts bank.old → Halted parts (state_of self.old) pairs (state_of self.new) halt) }
+        ensures refused { OnErr result ((parts : SigParts) → IsSignatureOf parts bank.old → TookSome parts (state_of self.old) pairs (state_of self.new)) }
         ensures held { IsCompletionOf bank.new self.new }
         ensures grows { Grows bank.old bank.new }
     {
+        let mut known = IndexSet::new(self.alloc);
         for _ in 0..pairs {
-            let took = self.take(bank)?;
+            let took = self.take(bank, &mut known)?;
             if !took {
                 return self.at_end();
             }
@@ -208,7 +222,7 @@ impl<'a> Completion<'a> {
         requires right { IsOf bank.old t.now }
         requires left_light { (out-Node s.now).weight ≤ 65536 }
         requires right_light { (out-Node t.now).weight ≤ 65536 }
-        ensures joined { IfOk result (λ o. (parts : SigParts) → SuitsGoal parts bank.old self.old.log (tree_of s.now) (tree_of t.now)
+        ensures joined { IfOk result (λ o. (parts : SigParts) → IsSignatureOf parts bank.old
             → MatchOption o (JoinNot parts self.old.log (tree_of s.now) (tree_of t.now)) (JoinBy parts self.old.log (tree_of s.now) (tree_of t.now))) }
         ensures ends { IfOk result (λ o. MatchOption o (Unit {0}) (λ c. (c.from ≡ s.entry) × (c.to ≡ t.entry))) }
         ensures held { IfOk result (λ o. MatchOption o (Unit {0}) (IsChainOf bank.new)) }

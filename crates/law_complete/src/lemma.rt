@@ -9,20 +9,22 @@ ghost use Rattle.law_bank.specs.Bindings.{AllBound, AreRising, binds_of};
 ghost use Rattle.law_match.specs.Directed.{equation_of, IsEqnOf};
 ghost use Rattle.law_index.specs.Index.{rules_in};
 ghost use Rattle.law_proof.specs.Log.{AllKept, IsFounded, equations_in, eqn_of, kept_of, steps_of};
-ghost use Rattle.law_rewrite.specs.Rewriting.{IsIndexOf, SuitsEqn};
-ghost use Rattle.law_pairs.specs.Overlapping.{AreLight, SuitsLog};
+ghost use Rattle.law_rewrite.specs.Rewriting.{IsIndexOf, IsSignatureOf};
+ghost use Rattle.law_rewrite.specs.Finding.{AreNormal};
+ghost use Rattle.law_pairs.specs.Overlapping.{AreLight};
 ghost use Rattle.law_pairs.specs.Walk.{named, IsPairOf};
 ghost use Rattle.law_complete.specs.Chains.{AllStepsOf};
 ghost use Rattle.law_complete.specs.Learning.{IsInstance, IsNoInstance, IsPairIn, Lead, Shows};
 ghost use Rattle.law_complete.specs.States.{WeighAtMostFour, IsSmallPair};
 
 use super::chains::{add_back, add_steps, same_place, turned};
+use indexmap::IndexSet;
 use law_bank::Head;
 use law_index::RuleIndex;
 use law_match::{directed, matches};
 use law_pairs::Pair;
 use law_proof::{Chain, Kept, ProofLog, Step};
-use law_rewrite::normal;
+use law_rewrite::normal_knowing;
 use law_sig::{NoMemory, Seq, SymId};
 use law_term::{Eqn, Pos, Subst, Term, TermBank, compare_k, term_at};
 use std::cmp::Ordering;
@@ -159,6 +161,7 @@ pub fn lemma<'a>(
     bank: &mut TermBank<'a>,
     log: &ProofLog<'a>,
     index: &RuleIndex<'a>,
+    known: &mut IndexSet<u64>,
     pair: &Pair<'a>,
 ) -> Result<Option<Kept<'a>>, NoMemory>
     requires log { AllKept bank.old log.now }
@@ -166,16 +169,17 @@ pub fn lemma<'a>(
     requires weights { WeighAtMostFour bank.old }
     requires held { IsPairOf bank.old pair.now }
     requires small { IsSmallPair pair.now }
+    requires known { AreNormal bank.old index.now known.old.keys }
     requires pair { IsPairIn bank.old log.now pair.now }
-    ensures shows { IfOk result (λ o. (parts : SigParts) → SuitsLog parts bank.old log.now → Shows parts (rules_in index.now) (named pair.now).pair o) }
+    ensures shows { IfOk result (λ o. (parts : SigParts) → IsSignatureOf parts bank.old → Shows parts (rules_in index.now) (named pair.now).pair o) }
     ensures founded { IfOk result (λ o. MatchOption o (Unit {0}) (IsFounded (equations_in log.now))) }
     ensures held { IfOk result (λ o. MatchOption o (Unit {0}) (λ k. IsEqnOf bank.new (eqn_of k))) }
     ensures light { IfOk result (λ o. MatchOption o (Unit {0}) (λ k. AreLight (eqn_of k))) }
-    ensures suits { IfOk result (λ o. MatchOption o (Unit {0}) (λ k. (parts : SigParts) → SuitsLog parts bank.old log.now → SuitsEqn parts bank.new (eqn_of k))) }
+    ensures known { AreNormal bank.new index.now known.new.keys }
     ensures grows { Grows bank.old bank.new }
 {
-    let (left, to_left) = normal(bank, log, index, pair.left)?;
-    let (right, to_right) = normal(bank, log, index, pair.right)?;
+    let (left, to_left) = normal_knowing(bank, log, index, known, pair.left)?;
+    let (right, to_right) = normal_knowing(bank, log, index, known, pair.right)?;
     bank.shared();
     if left.id == right.id {
         return Ok(None);

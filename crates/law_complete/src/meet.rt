@@ -5,7 +5,7 @@ ghost use Rattle.law_bank.specs.Terms.{tree_of};
 ghost use Rattle.law_bank.specs.Bank.{IsOf, Grows};
 ghost use Rattle.law_index.specs.Index.{rules_in};
 ghost use Rattle.law_proof.specs.Log.{AllKept, IsChainOf};
-ghost use Rattle.law_rewrite.specs.Rewriting.{IsIndexOf, IsRewriting};
+ghost use Rattle.law_rewrite.specs.Rewriting.{IsIndexOf, IsSignatureOf};
 ghost use Rattle.law_complete.specs.Joining.{MeetBy, MeetNot};
 
 use super::chains::add_back;
@@ -30,7 +30,7 @@ pub fn meet<'a>(
     requires right { IsOf bank.old t.now }
     requires left_light { (out-Node s.now).weight ≤ 65536 }
     requires right_light { (out-Node t.now).weight ≤ 65536 }
-    ensures meets { IfOk result (λ o. (parts : SigParts) → IsRewriting parts bank.old index.now (tree_of s.now) → IsRewriting parts bank.old index.now (tree_of t.now)
+    ensures meets { IfOk result (λ o. (parts : SigParts) → IsSignatureOf parts bank.old
         → MatchOption o (MeetNot parts (rules_in index.now) (tree_of s.now) (tree_of t.now)) (MeetBy parts (rules_in index.now) (tree_of s.now) (tree_of t.now))) }
     ensures ends { IfOk result (λ o. MatchOption o (Unit {0}) (λ c. (c.from ≡ s.entry) × (c.to ≡ t.entry))) }
     ensures held { IfOk result (λ o. MatchOption o (Unit {0}) (IsChainOf bank.new)) }

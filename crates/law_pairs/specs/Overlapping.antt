@@ -19,7 +19,6 @@ use Rattle.law_bank.specs.Bank.{Terms, IsOf}
 use Rattle.law_term.specs.declared.equation.Eqn.{Eqn}
 use Rattle.law_proof.specs.declared.kept.Kept.{Kept}
 use Rattle.law_proof.specs.Log.{eqn_of}
-use Rattle.law_rewrite.specs.Rewriting.{SuitsEqn}
 use Rattle.law_pairs.specs.declared.overlap.Sides.{Sides}
 use Rattle.law_pairs.specs.Names.{IsPlace}
 
@@ -32,10 +31,6 @@ pub record AreLight (q : Eqn) : Type 0 where
 
 abbrev pub AreAllLight : List Kept → Type 0
 AreAllLight log = Each (λ (k : Kept). AreLight (eqn_of k)) log
-
--- a signature with the weights of the bank, and with its sorts for the symbols of all equations
-abbrev pub SuitsLog : SigParts → Terms → List Kept → Type 0
-SuitsLog parts bank log = Each (λ (k : Kept). SuitsEqn parts bank (eqn_of k)) log
 
 -- Two equations
 

@@ -8,7 +8,7 @@ ghost use Rattle.law_bank.specs.declared.node.Node.{out-Node};
 ghost use Rattle.law_bank.specs.Terms.{tree_of};
 ghost use Rattle.law_bank.specs.Bank.{Terms, IsOf, Grows};
 ghost use Rattle.law_match.specs.Directed.{equation_of, IsEqnOf};
-ghost use Rattle.law_rewrite.specs.Rewriting.{SuitsEqn};
+ghost use Rattle.law_rewrite.specs.Rewriting.{IsSignatureOf};
 ghost use Rattle.law_pairs.specs.Names.{name_of};
 ghost use Rattle.law_pairs.specs.Overlapping.{AreLight, IsApartEqn, plain_of, AreOfBank, CannotOverlap, StandsAt, AreDirected, Qualifies, NoPair};
 
@@ -118,7 +118,7 @@ fn pair_at<'a>(
     requires outer_light { AreLight outer }
     requires inner_light { AreLight inner }
     requires there { StandsAt name.now.pos (tree_of outer.left.now) }
-    ensures found { IfOk result (λ o. (parts : SigParts) (equations : List Equation) → SuitsEqn parts bank.old outer.entry → SuitsEqn parts bank.old inner.entry
+    ensures found { IfOk result (λ o. (parts : SigParts) (equations : List Equation) → IsSignatureOf parts bank.old
         → AreDirected equations (name_of name.now) (equation_of outer.entry) (equation_of inner.entry)
         → MatchOption o (NoPair parts equations (name_of name.now)) (λ s. IsPair parts equations (record { name = name_of name.now; pair = plain_of s }))) }
     ensures held { IfOk result (λ o. MatchOption o (Unit {0}) (AreOfBank bank.new)) }
@@ -158,7 +158,7 @@ pub fn overlap<'a>(
     requires inner { IsEqnOf bank.old inner }
     requires outer_light { AreLight outer }
     requires inner_light { AreLight inner }
-    ensures found { IfOk result (λ o. (parts : SigParts) (equations : List Equation) → SuitsEqn parts bank.old outer.entry → SuitsEqn parts bank.old inner.entry
+    ensures found { IfOk result (λ o. (parts : SigParts) (equations : List Equation) → IsSignatureOf parts bank.old
         → numbered equations name.now.left.0 ≡ Some (equation_of outer.entry) → numbered equations name.now.right.0 ≡ Some (equation_of inner.entry)
         → MatchOption o (NoPair parts equations (name_of name.now)) (λ s. IsPair parts equations (record { name = name_of name.now; pair = plain_of s }))) }
     ensures held { IfOk result (λ o. MatchOption o (Unit {0}) (AreOfBank bank.new)) }

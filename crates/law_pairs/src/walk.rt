@@ -4,8 +4,9 @@ ghost use Rattle.law_sig.specs.declared.parts.SigParts.{SigParts};
 ghost use Rattle.law_rewriting.specs.Pairs.{IsItem, IsEnd};
 ghost use Rattle.law_bank.specs.Bank.{Grows};
 ghost use Rattle.law_proof.specs.Log.{AllKept, equations_in};
+ghost use Rattle.law_rewrite.specs.Rewriting.{IsSignatureOf};
 ghost use Rattle.law_pairs.specs.Names.{name_of};
-ghost use Rattle.law_pairs.specs.Overlapping.{AreAllLight, SuitsLog};
+ghost use Rattle.law_pairs.specs.Overlapping.{AreAllLight};
 ghost use Rattle.law_pairs.specs.Walk.{Walk, new_walk, Fits, given_after, named, IsPairOf};
 ghost use Rattle.law_pairs.specs.Walking.{LackOne, AreTwo};
 
@@ -89,9 +90,9 @@ impl PairWalk {
     ) -> Result<Option<Pair<'a>>, NoMemory>
         requires log { AllKept bank.old log.now }
         requires light { AreAllLight log.now }
-        ensures next { IfOk result (λ o. (parts : SigParts) → SuitsLog parts bank.old log.now → Fits parts (equations_in log.now) self.old
+        ensures next { IfOk result (λ o. (parts : SigParts) → IsSignatureOf parts bank.old → Fits parts (equations_in log.now) self.old
             → MatchOption o (IsEnd parts (equations_in log.now) self.old.given) (λ p. IsItem parts (equations_in log.now) self.old.given (named p))) }
-        ensures fits { (parts : SigParts) → SuitsLog parts bank.old log.now → Fits parts (equations_in log.now) self.old → Fits parts (equations_in log.now) self.new }
+        ensures fits { (parts : SigParts) → IsSignatureOf parts bank.old → Fits parts (equations_in log.now) self.old → Fits parts (equations_in log.now) self.new }
         ensures given { IfOk result (λ o. self.new.given ≡ given_after o self.old.given) }
         ensures err { OnErr result (self.new.given ≡ self.old.given) }
         ensures held { IfOk result (λ o. MatchOption o (Unit {0}) (IsPairOf bank.new)) }

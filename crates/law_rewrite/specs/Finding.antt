@@ -13,15 +13,15 @@ use Rattle.law_bank.specs.Bindings.{binds_of}
 use Rattle.law_index.specs.Index.{Entry, rules_in}
 use Rattle.law_rewrite.specs.declared.find.Open.{Open}
 use Rattle.law_rewrite.specs.declared.find.Found.{Found}
-use Rattle.law_rewrite.specs.Rewriting.{IsRewriting}
+use Rattle.law_rewrite.specs.Rewriting.{IsSignatureOf}
 
 -- Terms that are known
 
--- the term with this id is normal, whichever of the signatures that it is rewritten for is taken
+-- the term with this id is normal, by every signature of the bank
 pub record IsKnown (bank : Terms) (es : List Entry) (id : ℕ) : Type 0 where
   pub tree : Tree
   pub named : slice_get bank.trees id ≡ Some tree
-  pub normal : (parts : SigParts) → IsRewriting parts bank es tree → IsNormal parts (rules_in es) tree
+  pub normal : (parts : SigParts) → IsSignatureOf parts bank → IsNormal parts (rules_in es) tree
 
 abbrev pub AreNormal : Terms → List Entry → List ℕ → Type 0
 AreNormal bank es ids = Each (IsKnown bank es) ids

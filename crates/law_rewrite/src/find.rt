@@ -1,4 +1,4 @@
-ghost use Rattle.std.specs.Prelude.{◌≡◌, ◌≤◌, ◌++◌, [], ◌∷◌, IfOk, OnOk, MatchOption};
+ghost use Rattle.std.specs.Prelude.{◌≡◌, ◌≤◌, ◌++◌, [], ◌∷◌, IfOk, MatchOption};
 ghost use Rattle.law_sig.specs.declared.parts.SigParts.{SigParts};
 ghost use Rattle.law_rewriting.specs.Steps.{IsNormal};
 ghost use Rattle.law_bank.specs.declared.node.Node.{out-Node};
@@ -6,7 +6,7 @@ ghost use Rattle.law_bank.specs.Terms.{tree_of};
 ghost use Rattle.law_bank.specs.Bank.{Terms, IsOf, Grows};
 ghost use Rattle.law_bank.specs.Bindings.{AllBound, AreRising};
 ghost use Rattle.law_index.specs.Index.{AllRules, rules_in};
-ghost use Rattle.law_rewrite.specs.Rewriting.{IsRewriting};
+ghost use Rattle.law_rewrite.specs.Rewriting.{IsSignatureOf};
 ghost use Rattle.law_rewrite.specs.Finding.{AreNormal, IsUnknown, IsFoundAt, numbers_of};
 
 use indexmap::IndexSet;
@@ -84,10 +84,10 @@ pub fn find<'a>(
     requires term { IsOf bank.old term.now }
     requires light { (out-Node term.now).weight ≤ 65536 }
     requires known { AreNormal bank.old index.now known.old.keys }
-    ensures found { IfOk result (λ o. (parts : SigParts) → IsRewriting parts bank.old index.now (tree_of term.now) → MatchOption o (IsNormal parts (rules_in index.now) (tree_of term.now)) (IsFoundAt parts (rules_in index.now) (tree_of term.now))) }
+    ensures found { IfOk result (λ o. (parts : SigParts) → IsSignatureOf parts bank.old → MatchOption o (IsNormal parts (rules_in index.now) (tree_of term.now)) (IsFoundAt parts (rules_in index.now) (tree_of term.now))) }
     ensures held { IfOk result (λ o. MatchOption o (Unit {0}) (λ f. AllBound bank.new f.hit.subst)) }
     ensures rising { IfOk result (λ o. MatchOption o (Unit {0}) (λ f. AreRising f.hit.subst)) }
-    ensures known { OnOk result (AreNormal bank.new index.now known.new.keys) }
+    ensures known { AreNormal bank.new index.now known.new.keys }
     ensures grows { Grows bank.old bank.new }
 {
     let mut way = Vec::new(bank.alloc());

@@ -6,4 +6,4 @@ mod normal;
 mod step;
 
 pub use law_proof::{Chain, Step};
-pub use normal::normal;
+pub use normal::{normal, normal_knowing};

@@ -7,7 +7,8 @@ ghost use Rattle.law_bank.specs.Terms.{tree_of};
 ghost use Rattle.law_bank.specs.Bank.{IsOf, Grows, sorts_by};
 ghost use Rattle.law_index.specs.Index.{rules_in};
 ghost use Rattle.law_proof.specs.Log.{AllKept, IsChainOf, equations_in, steps_of};
-ghost use Rattle.law_rewrite.specs.Rewriting.{IsIndexOf, IsRewriting};
+ghost use Rattle.law_rewrite.specs.Rewriting.{IsIndexOf, IsSignatureOf};
+ghost use Rattle.law_rewrite.specs.Finding.{AreNormal};
 
 use super::step::step;
 use indexmap::IndexSet;
@@ -20,6 +21,45 @@ use law_term::{Term, TermBank};
 #[derive(Clone, Copy)]
 struct Reached<'a> {
     term: Term<'a>,
+}
+
+/// The normal form of a term, as `normal` gives it. Terms that are known to be normal by the index aren't looked at again, and those
+/// that are found to be so are noted: this changes no answer. So one who asks for many terms by one index hands in one set.
+pub fn normal_knowing<'a>(
+    bank: &mut TermBank<'a>,
+    log: &ProofLog<'a>,
+    index: &RuleIndex<'a>,
+    known: &mut IndexSet<u64>,
+    term: Term<'a>,
+) -> Result<(Term<'a>, Chain<'a>), NoMemory>
+    requires log { AllKept bank.old log.now }
+    requires index { IsIndexOf log.now index.now }
+    requires known { AreNormal bank.old index.now known.old.keys }
+    requires term { IsOf bank.old term.now }
+    requires light { (out-Node term.now).weight ≤ 65536 }
+    ensures form { IfOk result (λ r. (parts : SigParts) → IsSignatureOf parts bank.old → IsNf parts (rules_in index.now) (steps_of r.1.steps) (tree_of term.now) (tree_of r.0.now)) }
+    ensures replays { IfOk result (λ r. ReplaysWith (HasItsHead (sorts_by bank.old.sorts)) (equations_in log.now) (steps_of r.1.steps) (tree_of term.now) (tree_of r.0.now)) }
+    ensures from { IfOk result (λ r. r.1.from ≡ term.entry) }
+    ensures to { IfOk result (λ r. r.1.to ≡ r.0) }
+    ensures held { IfOk result (λ r. IsChainOf bank.new r.1) }
+    ensures known { AreNormal bank.new index.now known.new.keys }
+    ensures grows { Grows bank.old bank.new }
+{
+    let mut steps = Seq::new(bank.alloc());
+    let mut here = Reached { term };
+    for _ in 0..200 {
+        let Some(taken) = step(bank, log, index, known, here.term)? else {
+            break;
+        };
+        steps.push(taken.step)?;
+        here = Reached { term: taken.term };
+    }
+    let chain = Chain {
+        from: term,
+        steps,
+        to: here.term,
+    };
+    Ok((here.term, chain))
 }
 
 /// The normal form of a term by the equations of an index, with the chain of steps that lead to it: each is taken at the leftmost
@@ -35,7 +75,7 @@ pub fn normal<'a>(
     requires index { IsIndexOf log.now index.now }
     requires term { IsOf bank.old term.now }
     requires light { (out-Node term.now).weight ≤ 65536 }
-    ensures form { IfOk result (λ r. (parts : SigParts) → IsRewriting parts bank.old index.now (tree_of term.now) → IsNf parts (rules_in index.now) (steps_of r.1.steps) (tree_of term.now) (tree_of r.0.now)) }
+    ensures form { IfOk result (λ r. (parts : SigParts) → IsSignatureOf parts bank.old → IsNf parts (rules_in index.now) (steps_of r.1.steps) (tree_of term.now) (tree_of r.0.now)) }
     ensures replays { IfOk result (λ r. ReplaysWith (HasItsHead (sorts_by bank.old.sorts)) (equations_in log.now) (steps_of r.1.steps) (tree_of term.now) (tree_of r.0.now)) }
     ensures from { IfOk result (λ r. r.1.from ≡ term.entry) }
     ensures to { IfOk result (λ r. r.1.to ≡ r.0) }
@@ -43,19 +83,6 @@ pub fn normal<'a>(
     ensures grows { Grows bank.old bank.new }
 {
     let mut known = IndexSet::new(bank.alloc());
-    let mut steps = Seq::new(bank.alloc());
-    let mut here = Reached { term };
-    for _ in 0..200 {
-        let Some(taken) = step(bank, log, index, &mut known, here.term)? else {
-            break;
-        };
-        steps.push(taken.step)?;
-        here = Reached { term: taken.term };
-    }
-    let chain = Chain {
-        from: term,
-        steps,
-        to: here.term,
-    };
-    Ok((here.term, chain))
+    let found = normal_knowing(bank, log, index, &mut known, term)?;
+    Ok(found)
 }

@@ -1,4 +1,4 @@
-ghost use Rattle.std.specs.Prelude.{◌≡◌, ◌≤◌, IfOk, OnOk, MatchOption};
+ghost use Rattle.std.specs.Prelude.{◌≡◌, ◌≤◌, IfOk, MatchOption};
 ghost use Rattle.law_sig.specs.declared.parts.SigParts.{SigParts};
 ghost use Rattle.law_rewriting.specs.Steps.{IsNormal, IsOrderedStep};
 ghost use Rattle.law_bank.specs.declared.node.Node.{out-Node};
@@ -7,7 +7,7 @@ ghost use Rattle.law_bank.specs.Bank.{Terms, IsOf, Grows};
 ghost use Rattle.law_bank.specs.Bindings.{AllBound};
 ghost use Rattle.law_index.specs.Index.{rules_in};
 ghost use Rattle.law_proof.specs.Log.{AllKept, step_of};
-ghost use Rattle.law_rewrite.specs.Rewriting.{IsIndexOf, IsRewriting};
+ghost use Rattle.law_rewrite.specs.Rewriting.{IsIndexOf, IsSignatureOf};
 ghost use Rattle.law_rewrite.specs.Finding.{AreNormal};
 
 use super::find::{Found, find};
@@ -38,11 +38,11 @@ pub fn step<'a>(
     requires term { IsOf bank.old term.now }
     requires light { (out-Node term.now).weight ≤ 65536 }
     requires known { AreNormal bank.old index.now known.old.keys }
-    ensures taken { IfOk result (λ o. (parts : SigParts) → IsRewriting parts bank.old index.now (tree_of term.now) → MatchOption o (IsNormal parts (rules_in index.now) (tree_of term.now))
+    ensures taken { IfOk result (λ o. (parts : SigParts) → IsSignatureOf parts bank.old → MatchOption o (IsNormal parts (rules_in index.now) (tree_of term.now))
         (λ t. IsOrderedStep parts (rules_in index.now) (step_of t.step) (tree_of term.now) (tree_of t.term.now))) }
     ensures held { IfOk result (λ o. MatchOption o (Unit {0}) (λ t. IsOf bank.new t.term.now × AllBound bank.new t.step.subst)) }
     ensures light { IfOk result (λ o. MatchOption o (Unit {0}) (λ t. (out-Node t.term.now).weight ≤ 65536)) }
-    ensures known { OnOk result (AreNormal bank.new index.now known.new.keys) }
+    ensures known { AreNormal bank.new index.now known.new.keys }
     ensures grows { Grows bank.old bank.new }
 {
     let Some(found) = find(bank, index, known, term)? else {
