@@ -1,7 +1,7 @@
 -- What the fields of a completion mean.
 use Rattle.std.specs.Prelude.{◌≡◌, true, false, option_map}
 use Rattle.law_proof.specs.Log.{kept_in}
-use Rattle.law_complete.specs.declared.completion.Completion.TheInside.{Inside}
+use Rattle.law_complete.specs.declared.state.Completion.TheInside.{Inside}
 use Rattle.law_pairs.specs.Names.{name_of}
 use Rattle.law_complete.specs.States.{Completed}
 use Rattle.law_complete.specs.Upto.{AreUpto}

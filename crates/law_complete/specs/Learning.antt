@@ -18,7 +18,7 @@ use Rattle.law_bank.specs.Bank.{Terms, sorts_by}
 use Rattle.law_bank.specs.Bindings.{Binding, binds_of}
 use Rattle.law_proof.specs.declared.kept.Kept.{Kept}
 use Rattle.law_proof.specs.Log.{kept_of, equations_in}
-use Rattle.law_pairs.specs.declared.pair.Pair as pair
+use Rattle.law_pairs.specs.declared.named.Pair as pair
 use Rattle.law_rewrite.specs.Rewriting.{IsSignatureOf}
 use Rattle.law_pairs.specs.Walk.{named}
 

@@ -14,12 +14,12 @@ use Rattle.law_proof.specs.declared.kept.Kept.{Kept}
 use Rattle.law_proof.specs.declared.kept.Chain.{Chain}
 use Rattle.law_proof.specs.Log.{AllKept, kept_in, equations_in, steps_of}
 use Rattle.law_rewrite.specs.Rewriting.{IsSignatureOf}
-use Rattle.law_pairs.specs.declared.pair.Pair.{Pair}
+use Rattle.law_pairs.specs.declared.named.Pair.{Pair}
 use Rattle.law_pairs.specs.Names.{name_of}
 use Rattle.law_pairs.specs.Overlapping.{AreAllLight}
 use Rattle.law_pairs.specs.Walk.{Walk, new_walk, Fits, named, IsPairOf}
-use Rattle.law_complete.specs.declared.halt.Halt.{Halt}
-use Rattle.law_complete.specs.declared.halt.Halt.TheVariants as halt
+use Rattle.law_complete.specs.declared.ends.Halt.{Halt}
+use Rattle.law_complete.specs.declared.ends.Halt.TheVariants as halt
 
 -- the equations that are kept, the walk over their pairs, the pair that it gave and that isn't taken yet, and the first pair that was
 -- set aside

@@ -2,12 +2,12 @@
 #![tactic(auto)]
 
 mod chains;
-mod completion;
-mod halt;
-mod lemma;
-mod meet;
+mod ends;
+mod lemmas;
+mod meeting;
 mod rules;
+mod state;
 
-pub use completion::Completion;
-pub use halt::Halt;
+pub use ends::Halt;
 pub use law_pairs::PairId;
+pub use state::Completion;

@@ -3,7 +3,7 @@ use Rattle.std.specs.Prelude.{◌≡◌, ℕ, ◌≤◌, ◌⊎◌, suc, max, Li
 use Rattle.law_sig.specs.declared.tree.Tree.{Tree}
 use Rattle.law_sig.specs.Chains.{Rewrites}
 use Rattle.law_rewriting.specs.Pairs.{PairName, ListBefore, NameBefore}
-use Rattle.law_pairs.specs.declared.pair.PairId.{PairId}
+use Rattle.law_pairs.specs.declared.named.PairId.{PairId}
 
 abbrev pub name_of : PairId → PairName
 name_of n = record { outer = n.left.0; inner = n.right.0; outer_dir = n.left_dir; inner_dir = n.right_dir; place = n.pos }

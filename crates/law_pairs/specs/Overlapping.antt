@@ -19,7 +19,7 @@ use Rattle.law_bank.specs.Bank.{Terms, IsOf}
 use Rattle.law_term.specs.declared.equation.Eqn.{Eqn}
 use Rattle.law_proof.specs.declared.kept.Kept.{Kept}
 use Rattle.law_proof.specs.Log.{eqn_of}
-use Rattle.law_pairs.specs.declared.overlap.Sides.{Sides}
+use Rattle.law_pairs.specs.declared.overlaps.Sides.{Sides}
 use Rattle.law_pairs.specs.Names.{IsPlace}
 
 -- Equations of a log

@@ -6,7 +6,7 @@ use Rattle.law_sig.specs.declared.parts.SigParts.{SigParts}
 use Rattle.law_rewriting.specs.Pairs.{PairName, NamedPair, NameBefore, IsPair, AreInOrder}
 use Rattle.law_bank.specs.Terms.{tree_of}
 use Rattle.law_bank.specs.Bank.{Terms, IsOf}
-use Rattle.law_pairs.specs.declared.pair.Pair.{Pair}
+use Rattle.law_pairs.specs.declared.named.Pair.{Pair}
 use Rattle.law_pairs.specs.Names.{name_of}
 
 pub record Walk : Type 0 where

@@ -1,15 +1,15 @@
 //! Extended critical pairs of the equations of a log, one after another in the order of their names.
 #![tactic(auto)]
 
-mod after;
-mod overlap;
-mod pair;
+mod named;
+mod next;
+mod overlaps;
 mod walk;
 
 ghost use Rattle.law_pairs.specs.Walk.{NewWalksFit, WalksFitOn};
 
 pub use law_proof::{Dir, EqId};
-pub use pair::{Pair, PairId};
+pub use named::{Pair, PairId};
 pub use walk::PairWalk;
 
 /// A new walk fits every log, and a walk that fits a log fits every longer log that begins with it.

@@ -1,18 +1,18 @@
 -- The search for a step: a way down through terms, past those that are known to be normal.
-use Rattle.std.specs.Prelude.{◌≡◌, ℕ, ◌-◌, ◌<◌, ◌≤◌, List, map, Option, Some, None, slice_get}
+use Rattle.std.specs.Prelude.{◌≡◌, ℕ, suc, ◌-◌, ◌<◌, ◌≤◌, List, [], ◌∷◌, ◌++◌, map, Option, Some, None, slice_get}
 use denote.Bor.{Bor}
 use Rattle.law_sig.specs.Lists.{In, Each}
 use Rattle.law_sig.specs.declared.tree.Tree.{Tree}
 use Rattle.law_sig.specs.declared.parts.SigParts.{SigParts}
 use Rattle.law_sig.specs.declared.chain.Step.{Step}
 use Rattle.law_rewriting.specs.Steps.{Rules, IsNormal, IsOrderedStep}
-use Rattle.law_bank.specs.declared.node.Node.{Node}
+use Rattle.law_bank.specs.declared.node.Node.{Node, out-Node}
 use Rattle.law_bank.specs.Terms.{id_of}
 use Rattle.law_bank.specs.Bank.{Terms}
 use Rattle.law_bank.specs.Bindings.{binds_of}
 use Rattle.law_index.specs.Index.{Entry, rules_in}
-use Rattle.law_rewrite.specs.declared.find.Open.{Open}
-use Rattle.law_rewrite.specs.declared.find.Found.{Found}
+use Rattle.law_rewrite.specs.declared.search.Open.{Open}
+use Rattle.law_rewrite.specs.declared.search.Found.{Found}
 use Rattle.law_rewrite.specs.Rewriting.{IsSignatureOf}
 
 -- Terms that are known
@@ -44,8 +44,14 @@ IsUnknown ids args behind (Some at) = IsUnknownAt ids args behind at
 
 -- The way down
 
+-- it goes on to an argument
+pub record GoesDown (term : Bor Node) (at : ℕ) (old new : List Open) : Type 0 where
+  pub arg : Bor Node
+  pub there : slice_get (out-Node term.now).args.now at ≡ Some arg
+  pub is : new ≡ old ++ record { term = term; behind = suc at } ∷ record { term = arg; behind = 0 } ∷ []
+
 abbrev pub number_of : Open → ℕ
-number_of open = open.behind - 1
+number_of o = o.behind - 1
 
 abbrev pub numbers_of : List Open → List ℕ
 numbers_of way = map number_of way

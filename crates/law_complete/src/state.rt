@@ -15,9 +15,9 @@ ghost use Rattle.law_rewrite.specs.Rewriting.{IsSignatureOf};
 ghost use Rattle.law_complete.specs.Upto.{IsLemma, entries_in};
 ghost use Rattle.law_complete.specs.States.{Completed, new_completion, state_of, WeighAtMostFour, IsCompletionOf, IsFound, TookNext, AtEnd, Halted, TookSome, JoinNot, JoinBy};
 
-use super::halt::Halt;
-use super::lemma::lemma;
-use super::meet::meet;
+use super::ends::Halt;
+use super::lemmas::lemma;
+use super::meeting::meet;
 use super::rules::{Rules, catch_up, no_rules};
 use indexmap::IndexSet;
 use law_pairs::{Pair, PairId, PairWalk};
@@ -43,8 +43,9 @@ pub struct Completion<'a> {
 impl<'a> Model for Completion<'a> {
     ghost use Rattle.std.specs.Coded.{codes};
     ghost use Rattle.law_proof.specs.contracts.kept.Kept as kept;
-    ghost use Rattle.law_pairs.specs.contracts.pair.Pair as pair;
+    ghost use Rattle.law_pairs.specs.contracts.named.Pair as pair;
     ghost use mir.Syntax.{named};
+    ghost use Rattle.std.specs.Prelude.{[]};
     ghost use Rattle.law_complete.specs.States.{Completed};
 
     ghost Value = { Completed };

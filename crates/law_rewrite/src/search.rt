@@ -1,4 +1,4 @@
-ghost use Rattle.std.specs.Prelude.{◌≡◌, ◌≤◌, ◌++◌, [], ◌∷◌, IfOk, MatchOption};
+ghost use Rattle.std.specs.Prelude.{◌≡◌, ◌<◌, ◌≤◌, length, IfOk, OnOk, MatchOption};
 ghost use Rattle.law_sig.specs.declared.parts.SigParts.{SigParts};
 ghost use Rattle.law_rewriting.specs.Steps.{IsNormal};
 ghost use Rattle.law_bank.specs.declared.node.Node.{out-Node};
@@ -7,7 +7,7 @@ ghost use Rattle.law_bank.specs.Bank.{Terms, IsOf, Grows};
 ghost use Rattle.law_bank.specs.Bindings.{AllBound, AreRising};
 ghost use Rattle.law_index.specs.Index.{AllRules, rules_in};
 ghost use Rattle.law_rewrite.specs.Rewriting.{IsSignatureOf};
-ghost use Rattle.law_rewrite.specs.Finding.{AreNormal, IsUnknown, IsFoundAt, numbers_of};
+ghost use Rattle.law_rewrite.specs.Finding.{AreNormal, IsUnknown, GoesDown, IsFoundAt, numbers_of};
 
 use indexmap::IndexSet;
 use law_index::{Hit, RuleIndex};
@@ -44,7 +44,10 @@ fn unknown(known: &IndexSet<u64>, term: Term<'_>, behind: u32) -> Option<usize>
 }
 
 /// Goes down to an argument.
-fn go_down<'a>(way: &mut Vec<Open<'a>>, term: Term<'a>, at: usize) -> Result<(), NoMemory> {
+fn go_down<'a>(way: &mut Vec<Open<'a>>, term: Term<'a>, at: usize) -> Result<(), NoMemory>
+    requires { at < length (out-Node term.now).args.now }
+    ensures { OnOk result (GoesDown term.entry at way.old.items way.new.items) }
+{
     let Ok(behind) = u32::try_from(at + 1) else {
         return Err(NoMemory);
     };
@@ -66,8 +69,8 @@ fn place(alloc: Global, way: &[Open<'_>]) -> Result<Pos, NoMemory>
 {
     let mut pos = Pos::new(alloc);
     for at in 0..way.len() {
-        let open = way[at];
-        pos.push(open.behind.saturating_sub(1))?;
+        let turn = way[at];
+        pos.push(turn.behind.saturating_sub(1))?;
     }
     Ok(pos)
 }
@@ -94,16 +97,16 @@ pub fn find<'a>(
     let Ok(()) = way.push(Open { term, behind: 0 }) else {
         return Err(NoMemory);
     };
-    while let Some(open) = way.pop() {
-        if let Some(at) = unknown(known, open.term, open.behind) {
-            go_down(&mut way, open.term, at)?;
+    while let Some(here) = way.pop() {
+        if let Some(at) = unknown(known, here.term, here.behind) {
+            go_down(&mut way, here.term, at)?;
             continue;
         }
-        if let Some(hit) = index.first_match(bank, open.term)? {
+        if let Some(hit) = index.first_match(bank, here.term)? {
             let pos = place(bank.alloc(), way.as_slice())?;
             return Ok(Some(Found { pos, hit }));
         }
-        let Ok(_) = known.insert(open.term.id) else {
+        let Ok(_) = known.insert(here.term.id) else {
             return Err(NoMemory);
         };
     }

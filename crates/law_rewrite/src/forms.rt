@@ -10,7 +10,7 @@ ghost use Rattle.law_proof.specs.Log.{AllKept, IsChainOf, equations_in, steps_of
 ghost use Rattle.law_rewrite.specs.Rewriting.{IsIndexOf, IsSignatureOf};
 ghost use Rattle.law_rewrite.specs.Finding.{AreNormal};
 
-use super::step::step;
+use super::steps::step;
 use indexmap::IndexSet;
 use law_index::RuleIndex;
 use law_proof::{Chain, ProofLog};

@@ -12,7 +12,7 @@ ghost use Rattle.law_rewrite.specs.Rewriting.{IsSignatureOf};
 ghost use Rattle.law_pairs.specs.Names.{name_of};
 ghost use Rattle.law_pairs.specs.Overlapping.{AreLight, IsApartEqn, plain_of, AreOfBank, CannotOverlap, StandsAt, AreDirected, Qualifies, NoPair};
 
-use super::pair::PairId;
+use super::named::PairId;
 use law_match::{directed, unify};
 use law_sig::NoMemory;
 use law_term::{Eqn, Head, Term, TermBank, kbo, term_at};

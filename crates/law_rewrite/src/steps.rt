@@ -10,7 +10,7 @@ ghost use Rattle.law_proof.specs.Log.{AllKept, step_of};
 ghost use Rattle.law_rewrite.specs.Rewriting.{IsIndexOf, IsSignatureOf};
 ghost use Rattle.law_rewrite.specs.Finding.{AreNormal};
 
-use super::find::{Found, find};
+use super::search::{Found, find};
 use indexmap::IndexSet;
 use law_index::RuleIndex;
 use law_match::directed;

@@ -3,7 +3,7 @@ ghost use Rattle.law_bank.specs.Terms.{tree_of};
 ghost use Rattle.law_bank.specs.Bank.{Terms, IsOf};
 ghost use Rattle.law_pairs.specs.Names.{name_of, IsBeside, IsNextPlace, IsLastPlace, IsNextNumbers, IsNextName};
 
-use super::pair::{PairId, place};
+use super::named::{PairId, place};
 use law_sig::NoMemory;
 use law_term::{Dir, EqId, Pos, Term};
 use std::alloc::Global;
