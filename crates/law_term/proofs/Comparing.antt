@@ -4,7 +4,7 @@ use Rattle.std.specs.Ordering.{ordering_then, MatchOrdering}
 use Rattle.std.specs.Option.{option_map}
 use Rattle.std.specs.Cmp.Lexicographic.{slice_cmp}
 use Rattle.std.proofs.lemmas.Bool.{eqb-true, eq-eqb}
-use Rattle.std.proofs.lemmas.List.{drop_all}
+use Rattle.std.proofs.lemmas.List.{drop_all, length-drop}
 use denote.Bor.{Bor}
 use Rattle.law_sig.specs.Lists.{In, Each, total}
 use Rattle.law_sig.specs.Lists.In.{here, there}
@@ -48,8 +48,12 @@ module _ (xs ys : List (Bor Node)) (at : ℕ) (d : Bor Node) where
       ∙ ap (λ b. if b then first_other (drop (at + 1) xs) (drop (at + 1) ys) else Some (slice_index_or xs at d, slice_index_or ys at e))
       (eq-eqb (id_of (slice_index_or xs at d).now) (id_of (slice_index_or ys at e).now) same)) ∙ is
 
-  pub other_spent : at < length xs → length ys ≤ at → first_other (drop at xs) (drop at ys) ≡ first_other xs ys → None ≡ first_other xs ys
-  other_spent h over is = sym (ap₂ first_other (drop_get xs at d h) (drop_all at ys over)) ∙ is
+no_other : (xs : List (Bor Node)) → None ≡ first_other xs []
+no_other [] = refl
+no_other (x ∷ xs) = refl
+
+pub other_spent : (xs ys : List (Bor Node)) (at : ℕ) → length ys ≤ at → first_other (drop at xs) (drop at ys) ≡ first_other xs ys → None ≡ first_other xs ys
+other_spent xs ys at over is = no_other (drop at xs) ∙ sym (ap (first_other (drop at xs)) (drop_all at ys over)) ∙ is
 
 pub other_none : (xs ys : List (Bor Node)) (at : ℕ) → length xs ≤ at → first_other (drop at xs) (drop at ys) ≡ first_other xs ys → None ≡ first_other xs ys
 other_none xs ys at over is = sym (ap (λ l. first_other l (drop at ys)) (drop_all at xs over)) ∙ is
@@ -80,6 +84,12 @@ var_none bank a b s i e h =
 
 -- K
 
+pub less_other : Less ≡ Equal → ⊥
+less_other e = absurd (cc)
+
+pub greater_other : Greater ≡ Equal → ⊥
+greater_other e = absurd (cc)
+
 pub stand_start : (a b : Node) → StandFor a b a b
 stand_start a b = λ bank parts w. record { comparable = w; same = refl }
 
@@ -109,6 +119,18 @@ module _ (a b l r : Node) (s : StandFor a b l r) (o : Ordering) (is : o ≡ root
 abbrev pub schemas_cmp : SigParts → List (Bor Node) → List (Bor Node) → Ordering
 schemas_cmp parts xs ys = slice_cmp (compare_k parts) (map schema_of (trees_of xs)) (map schema_of (trees_of ys))
 
+-- where one side has more arguments
+some_left : {A : Type 0} (at : ℕ) (xs : List A) → at < length xs → 0 < length (drop at xs)
+some_left at xs h = let e = length-drop at xs in omega (arith, e, h)
+
+more_left : (parts : SigParts) (xs : List (Bor Node)) → 0 < length xs → Greater ≡ schemas_cmp parts xs []
+more_left parts [] h = absurd (omega (arith, h))
+more_left parts (x ∷ xs) h = refl
+
+more_right : (parts : SigParts) (ys : List (Bor Node)) → 0 < length ys → Less ≡ schemas_cmp parts [] ys
+more_right parts [] h = absurd (omega (arith, h))
+more_right parts (y ∷ ys) h = refl
+
 pub schemas_same : (bank : Terms) (parts : SigParts) (a b : Node) → AreComparable bank parts a b → id_of a ≡ id_of b → Equal ≡ compare_k parts (schema_of (tree_of a)) (schema_of (tree_of b))
 schemas_same bank parts a b w e =
     sym (ap (λ t. compare_k parts (schema_of (tree_of a)) (schema_of t)) (sym (same_tree bank a b w.left w.right e)) ∙ k_itself parts (schema_of (tree_of a)))
@@ -135,11 +157,11 @@ module _ (bank : Terms) (parts : SigParts) (a b : Node) (w : AreComparable bank 
     pub schemas_at : (q : Ordering) → q ≡ schemas_cmp parts (drop at lefts) (drop at rights) → q ≡ compare_k parts (schema_of (tree_of a)) (schema_of (tree_of b))
     schemas_at q f = f ∙ rest ∙ sym (schemas_by Equal e)
 
-    pub schemas_spent : (d : Bor Node) → at < length lefts → length rights ≤ at → Greater ≡ compare_k parts (schema_of (tree_of a)) (schema_of (tree_of b))
-    schemas_spent d h over = schemas_at Greater (sym (ap₂ (schemas_cmp parts) (drop_get lefts at d h) (drop_all at rights over)))
+    pub schemas_spent : at < length lefts → length rights ≤ at → Greater ≡ compare_k parts (schema_of (tree_of a)) (schema_of (tree_of b))
+    schemas_spent h over = schemas_at Greater (more_left parts (drop at lefts) (some_left at lefts h) ∙ sym (ap (schemas_cmp parts (drop at lefts)) (drop_all at rights over)))
 
-    pub schemas_fewer : length lefts ≤ at → at < length rights → (d : Bor Node) → Less ≡ compare_k parts (schema_of (tree_of a)) (schema_of (tree_of b))
-    schemas_fewer over h d = schemas_at Less (sym (ap₂ (schemas_cmp parts) (drop_all at lefts over) (drop_get rights at d h)))
+    pub schemas_fewer : length lefts ≤ at → at < length rights → Less ≡ compare_k parts (schema_of (tree_of a)) (schema_of (tree_of b))
+    schemas_fewer over h = schemas_at Less (more_right parts (drop at rights) (some_left at rights h) ∙ sym (ap (λ l. schemas_cmp parts l (drop at rights)) (drop_all at lefts over)))
 
     pub schemas_all : length lefts ≤ at → length rights ≤ at → Equal ≡ compare_k parts (schema_of (tree_of a)) (schema_of (tree_of b))
     schemas_all over over' = schemas_at Equal (sym (ap₂ (schemas_cmp parts) (drop_all at lefts over) (drop_all at rights over')))

@@ -1,5 +1,5 @@
 -- How often a variable stands in terms, one after another, and which is the next one.
-use Rattle.std.proofs.Common.{◌≡◌, ℕ, zero, suc, ◌+◌, ◌-◌, ◌^◌, ◌<◌, ◌≤◌, min, ◌⊎◌, inl, inr, ◌↔◌, Bool, true, false, ◌&&◌, ◌||◌, ◌==◌, nat_lt, if◌then◌else◌, List, [], ◌∷◌, ◌++◌, length, map, take, drop, slice_index_or, Option, Some, None, IsTrue, rules, append-nil, ap, sym, ◌∙◌, refl, subst, arith}
+use Rattle.std.proofs.Common.{◌≡◌, ℕ, zero, suc, ◌+◌, ◌-◌, ◌*◌, ◌^◌, ◌<◌, ◌≤◌, min, ◌⊎◌, inl, inr, ◌↔◌, Bool, true, false, ◌&&◌, ◌||◌, ◌==◌, nat_lt, if◌then◌else◌, List, [], ◌∷◌, ◌++◌, length, map, take, drop, slice_index_or, Option, Some, None, IsTrue, rules, append-nil, ap, sym, ◌∙◌, refl, subst, arith}
 use Rattle.std.proofs.lemmas.List.{drop_all, map-append}
 use Rattle.std.proofs.lemmas.Bool.{eqb-true, eq-eqb}
 use native.Mathlib.Decide.{dec_lt}
@@ -23,7 +23,7 @@ use Rattle.law_bank.specs.declared.node.Node.{Node}
 use Rattle.law_bank.specs.Terms.{tree_of, trees_of}
 use Rattle.law_bank.specs.Bank.{Terms, capped}
 use Rattle.law_bank.specs.Orders.{AreComparable}
-use Rattle.law_term.specs.Variables.{Variable, holes_in, VarBefore, IsBehind, IsUpto, StandsIn, IsFirst}
+use Rattle.law_term.specs.Variables.{Variable, holes_in, VarBefore, IsBehind, is_behind, IsUpto, StandsIn, IsFirst}
 use Rattle.law_term.proofs.Bound.{drop_get}
 use Rattle.law_term.proofs.Placing.{trees_append}
 
@@ -39,7 +39,7 @@ around_item (x ∷ xs) (suc k) d h =
 -- How often a number stands
 
 times_append : (n : ℕ) (xs ys : List ℕ) → times n (xs ++ ys) ≡ times n xs + times n ys
-times_append n [] ys = refl
+times_append n [] ys = omega arith
 times_append n (x ∷ xs) ys = by (x == n) (times_append n xs ys)
   where
     by : (b : Bool) → times n (xs ++ ys) ≡ times n xs + times n ys → (if b then 1 + times n (xs ++ ys) else times n (xs ++ ys)) ≡ (if b then 1 + times n xs else times n xs) + times n ys
@@ -80,7 +80,7 @@ module _ (s : SortId) (i : ℕ) where
   in_trees-more t ts = times_append i (holes s t) (holes_in s ts)
 
   in_trees-append : (ss ts : List Tree) → in_trees (ss ++ ts) ≡ in_trees ss + in_trees ts
-  in_trees-append [] ts = refl
+  in_trees-append [] ts = omega arith
   in_trees-append (t ∷ ss) ts =
       let a = in_trees-more t (ss ++ ts) in let b = in_trees-more t ss in let c = in_trees-append ss ts in omega (arith, a, b, c)
 
@@ -113,46 +113,60 @@ module _ (s : SortId) (i : ℕ) where
   count_end xs at count over small so_far = let a = ap (λ l. in_trees (trees_of l)) (drop_all at xs over) in omega (arith, a, small, so_far)
 
   -- an argument takes the place of the term, once the others are counted
-  pub count_down : (t : Tree) (f : SymId) (xs : List (Bor Node)) (k : ℕ) (d : Bor Node) (whole count one two mid next : ℕ) → t ≡ App f (trees_of xs) → k < length xs
-      → one ≡ capped (in_trees (trees_of (take k xs))) → two ≡ capped (in_trees (trees_of (drop (k + 1) xs)))
+  pub count_down : (t : Tree) (f : SymId) (xs before after : List (Bor Node)) (x : Bor Node) (whole count one two mid next : ℕ) → t ≡ App f (trees_of xs) → xs ≡ before ++ x ∷ after
+      → one ≡ capped (in_trees (trees_of before)) → two ≡ capped (in_trees (trees_of after))
       → mid ≡ min (count + one) (2 ^ 64 - 1) → next ≡ min (mid + two) (2 ^ 64 - 1)
-      → capped (count + in_tree t) ≡ capped whole → capped (next + in_tree (tree_of (slice_index_or xs k d).now)) ≡ capped whole
-  count_down t f xs k d whole count one two mid next is within is_one is_two is_mid is_next so_far =
+      → capped (count + in_tree t) ≡ capped whole → capped (next + in_tree (tree_of x.now)) ≡ capped whole
+  count_down t f xs before after x whole count one two mid next is split is_one is_two is_mid is_next so_far =
       let a = ap in_tree is ∙ in_app f (trees_of xs) in
-      let b = ap (λ l. in_trees (trees_of l)) (around_item xs k d within) ∙ ap in_trees (trees_append (take k xs) (slice_index_or xs k d ∷ drop (k + 1) xs))
-          ∙ in_trees-append (trees_of (take k xs)) (trees_of (slice_index_or xs k d ∷ drop (k + 1) xs)) in
-      let c = in_trees-more (tree_of (slice_index_or xs k d).now) (trees_of (drop (k + 1) xs)) in
+      let b = ap (λ l. in_trees (trees_of l)) split ∙ ap in_trees (trees_append before (x ∷ after)) ∙ in_trees-append (trees_of before) (trees_of (x ∷ after)) in
+      let c = in_trees-more (tree_of x.now) (trees_of after) in
       omega (arith, is_one, is_two, is_mid, is_next, so_far, a, b, c)
+
+  -- at a variable, and at a symbol without arguments
+  pub count_var : (t : Tree) (u : SortId) (j whole count : ℕ) → t ≡ Var u j → count < 2 ^ 64
+      → capped (count + in_tree t) ≡ capped whole → (b : Bool) → b ≡ (same_sort u s && (j == i)) → min (count + (if b then 1 else 0)) (2 ^ 64 - 1) ≡ capped whole
+  count_var t u j whole count is small so_far b e =
+      ap (λ n. min (count + n) (2 ^ 64 - 1)) (ap (λ c. if c then 1 else 0) e ∙ sym (in_var u j) ∙ ap in_tree (sym is)) ∙ so_far
+
+  pub count_none : (t : Tree) (f : SymId) (xs : List (Bor Node)) (whole count : ℕ) → t ≡ App f (trees_of xs) → xs ≡ [] → count < 2 ^ 64
+      → capped (count + in_tree t) ≡ capped whole → count ≡ capped whole
+  count_none t f xs whole count is none small so_far =
+      let a : in_tree t ≡ 0 = ap in_tree is ∙ in_app f (trees_of xs) ∙ ap (λ l. in_trees (trees_of l)) none in omega (arith, a, small, so_far)
 
 -- Sizes
 
 pub nodes_append : (ss ts : List Tree) → total (map node_count (ss ++ ts)) ≡ total (map node_count ss) + total (map node_count ts)
-nodes_append [] ts = refl
+nodes_append [] ts = omega arith
 nodes_append (s ∷ ss) ts = let r = nodes_append ss ts in omega (arith, r)
 
 -- the arguments around one, and that one, have fewer nodes than the term
-module _ (t : Tree) (f : SymId) (xs : List (Bor Node)) (is : t ≡ App f (trees_of xs)) (k : ℕ) (d : Bor Node) (within : k < length xs) where
-  whole_nodes : node_count t ≡ 1 + (total (map node_count (trees_of (take k xs))) + (node_count (tree_of (slice_index_or xs k d).now) + total (map node_count (trees_of (drop (k + 1) xs)))))
+module _ (t : Tree) (f : SymId) (xs before after : List (Bor Node)) (x : Bor Node) (is : t ≡ App f (trees_of xs)) (split : xs ≡ before ++ x ∷ after) where
+  whole_nodes : node_count t ≡ 1 + (total (map node_count (trees_of before)) + (node_count (tree_of x.now) + total (map node_count (trees_of after))))
   whole_nodes =
       let a = ap node_count is ∙ nodes-App f (trees_of xs) in
-      let b = ap (λ l. total (map node_count (trees_of l))) (around_item xs k d within)
-          ∙ ap (λ l. total (map node_count l)) (trees_append (take k xs) (slice_index_or xs k d ∷ drop (k + 1) xs))
-          ∙ nodes_append (trees_of (take k xs)) (trees_of (slice_index_or xs k d ∷ drop (k + 1) xs)) in
+      let b = ap (λ l. total (map node_count (trees_of l))) split
+          ∙ ap (λ l. total (map node_count l)) (trees_append before (x ∷ after))
+          ∙ nodes_append (trees_of before) (trees_of (x ∷ after)) in
       omega (arith, a, b)
 
-  pub before_fewer : total (map node_count (trees_of (take k xs))) < node_count t
+  pub before_fewer : total (map node_count (trees_of before)) < node_count t
   before_fewer = let w = whole_nodes in omega (arith, w)
 
-  pub after_fewer : total (map node_count (trees_of (drop (k + 1) xs))) < node_count t
+  pub after_fewer : total (map node_count (trees_of after)) < node_count t
   after_fewer = let w = whole_nodes in omega (arith, w)
 
-  pub item_fewer : node_count (tree_of (slice_index_or xs k d).now) < node_count t
+  pub item_fewer : node_count (tree_of x.now) < node_count t
   item_fewer = let w = whole_nodes in omega (arith, w)
 
 pub one_of_nodes : (xs : List (Bor Node)) (k : ℕ) (d : Bor Node) → k < length xs → node_count (tree_of (slice_index_or xs k d).now) ≤ total (map node_count (trees_of xs))
 one_of_nodes [] k d h = absurd (omega arith)
 one_of_nodes (x ∷ xs) zero d h = omega arith
 one_of_nodes (x ∷ xs) (suc k) d h = let r = one_of_nodes xs k d (omega arith) in omega (arith, r)
+
+pub item_measure : (xs : List (Bor Node)) (k : ℕ) (d : Bor Node) (t : ℕ) → k < length xs → 2 * total (map node_count (trees_of xs)) + 1 ≤ t
+    → 2 * node_count (tree_of (slice_index_or xs k d).now) < t
+item_measure xs k d t within h = let n = one_of_nodes xs k d within in omega (arith, n, h)
 
 -- a variable stands in a term no more often than the term weighs
 pub times_light : (parts : SigParts) (s : SortId) (i : ℕ) (t : Tree) → in_tree s i t ≤ weight parts t
@@ -221,6 +235,22 @@ pub never_before : (v : Variable) → VarBefore v v → ⊥
 never_before v (inl h) = omega (arith, h)
 never_before v (inr h) = let l = h.1 in omega (arith, l)
 
+pub behind_is : (o : Option Variable) (v : Variable) → IsBehind o v → is_behind o v ≡ true
+behind_is None v h = refl
+behind_is (Some u) v h = by (comes_before u.0 u.1 v.0 v.1) refl
+  where
+    again : (v ≡ u) ⊎ VarBefore v u → ⊥
+    again (inl e) = never_before u (subst (VarBefore u) e h)
+    again (inr k) = never_before u (before_chain u v u h k)
+
+    by : (b : Bool) → comes_before u.0 u.1 v.0 v.1 ≡ b → b ≡ true
+    by true e = refl
+    by false e = absurd (again (before_no u v e))
+
+is_yes : (o : Option Variable) (v : Variable) → is_behind o v ≡ true → IsBehind o v
+is_yes None v e = tt
+is_yes (Some u) v e = before_yes u v e
+
 upto_on : (first : Option Variable) (v u : Variable) → IsUpto first v → (v ≡ u) ⊎ VarBefore v u → IsUpto first u
 upto_on None v u h k = absurd h
 upto_on (Some w) v u (inl e) (inl k) = inl (e ∙ k)
@@ -236,23 +266,23 @@ upto_is (Some v) first w kept h = upto_on first v w (kept v refl) h
 
 in_both : (v : Variable) (ss ts : List Tree) → StandsIn v (ss ++ ts) → StandsIn v ss ⊎ StandsIn v ts
 in_both v [] ts at = inr at
-in_both v (s ∷ ss) ts at = by (in_split (holes v.0 s) (holes_in v.0 (ss ++ ts)) at)
+in_both v (s ∷ ss) ts at = by (in_both v ss ts) (in_split (holes v.0 s) (holes_in v.0 (ss ++ ts)) at)
   where
     more : StandsIn v ss ⊎ StandsIn v ts → StandsIn v (s ∷ ss) ⊎ StandsIn v ts
     more (inl k) = inl (in_right (holes v.0 s) k)
     more (inr k) = inr k
 
-    by : In v.1 (holes v.0 s) ⊎ StandsIn v (ss ++ ts) → StandsIn v (s ∷ ss) ⊎ StandsIn v ts
-    by (inl k) = inl (in_left (holes_in v.0 ss) k)
-    by (inr k) = more (in_both v ss ts k)
+    by : (StandsIn v (ss ++ ts) → StandsIn v ss ⊎ StandsIn v ts) → In v.1 (holes v.0 s) ⊎ StandsIn v (ss ++ ts) → StandsIn v (s ∷ ss) ⊎ StandsIn v ts
+    by rec (inl k) = inl (in_left (holes_in v.0 ss) k)
+    by rec (inr k) = more (rec k)
 
 in_first : (v : Variable) (ss ts : List Tree) → StandsIn v ss → StandsIn v (ss ++ ts)
 in_first v [] ts at = in_none at
-in_first v (s ∷ ss) ts at = by (in_split (holes v.0 s) (holes_in v.0 ss) at)
+in_first v (s ∷ ss) ts at = by (in_first v ss ts) (in_split (holes v.0 s) (holes_in v.0 ss) at)
   where
-    by : In v.1 (holes v.0 s) ⊎ StandsIn v ss → StandsIn v (s ∷ (ss ++ ts))
-    by (inl k) = in_left (holes_in v.0 (ss ++ ts)) k
-    by (inr k) = in_right (holes v.0 s) (in_first v ss ts k)
+    by : (StandsIn v ss → StandsIn v (ss ++ ts)) → In v.1 (holes v.0 s) ⊎ StandsIn v ss → StandsIn v (s ∷ (ss ++ ts))
+    by rec (inl k) = in_left (holes_in v.0 (ss ++ ts)) k
+    by rec (inr k) = in_right (holes v.0 s) (rec k)
 
 in_second : (v : Variable) (ss ts : List Tree) → StandsIn v ts → StandsIn v (ss ++ ts)
 in_second v [] ts at = at
@@ -345,6 +375,22 @@ module _ (after : Option Variable) where
     kept = λ v e. inr (before v e);
   }
 
+  -- the same by what the code asks
+  module _ (given : Option Variable) (u : SortId) (j : ℕ) (b : Bool) (is : b ≡ is_behind after (u, j)) where
+    pub of_passed : b ≡ false → IsFirst after given (Var u j ∷ []) given
+    of_passed e = first_passed given u j (λ h. let k = behind_is after (u, j) h in absurd (cc))
+
+    module _ (e : b ≡ true) where
+      pub of_none : given ≡ None → IsFirst after given (Var u j ∷ []) (Some (u, j))
+      of_none g = first_new given u j (is_yes after (u, j) (sym is ∙ e)) (λ w k. absurd (cc))
+
+      module _ (w : Variable) (g : given ≡ Some w) (c : Bool) (before : c ≡ comes_before u j w.0 w.1) where
+        pub of_new : c ≡ true → IsFirst after given (Var u j ∷ []) (Some (u, j))
+        of_new h = first_new given u j (is_yes after (u, j) (sym is ∙ e)) (λ v k. subst (VarBefore (u, j)) (some_is w v (sym g ∙ k)) (before_yes (u, j) w (sym before ∙ h)))
+
+        pub of_given : c ≡ false → IsFirst after given (Var u j ∷ []) given
+        of_given h = subst (λ o. IsFirst after o (Var u j ∷ []) o) (sym g) (first_given w u j (before_no (u, j) w (sym before ∙ h)))
+
   -- going down into a term
   pub app_stands : (v : Variable) (f : SymId) (ts : List Tree) → StandsIn v (App f ts ∷ []) ↔ StandsIn v ts
   app_stands v f ts = (
@@ -354,3 +400,53 @@ module _ (after : Option Variable) where
 
   pub first_app : (given first : Option Variable) (t : Tree) (f : SymId) (ts : List Tree) → t ≡ App f ts → IsFirst after given ts first → IsFirst after given (t ∷ []) first
   first_app given first t f ts is h = subst (λ z. IsFirst after given (z ∷ []) first) (sym is) (first_same given first ts (App f ts ∷ []) (λ v. app_stands v f ts) h)
+
+  -- an argument takes the place of the term, once the others were gone through
+  pub first_down : (t : Tree) (f : SymId) (xs before behind : List (Bor Node)) (x : Bor Node) (first one two : Option Variable) → t ≡ App f (trees_of xs) → xs ≡ before ++ x ∷ behind
+      → IsFirst after first (trees_of before) one → IsFirst after one (trees_of behind) two
+      → (r : Option Variable) → IsFirst after two (tree_of x.now ∷ []) r → IsFirst after first (t ∷ []) r
+  first_down t f xs before behind x first one two is split a b r c =
+      first_app first r t f (trees_of xs) is
+      (subst (λ l. IsFirst after first l r) (sym (ap trees_of split ∙ trees_append before (x ∷ behind)))
+      (first_on first two r (trees_of before ++ trees_of behind) (tree_of x.now ∷ []) (trees_of before ++ trees_of (x ∷ behind)) both
+      (first_append first one two (trees_of before) (trees_of behind) a b) c))
+    where
+      bs : List Tree
+      bs = trees_of before
+
+      us : List Tree
+      us = trees_of behind
+
+      apart : (v : Variable) → StandsIn v bs ⊎ StandsIn v (tree_of x.now ∷ us) → StandsIn v (bs ++ us) ⊎ StandsIn v (tree_of x.now ∷ [])
+      apart v (inl k) = inl (in_first v bs us k)
+      apart v (inr k) = later (in_both v (tree_of x.now ∷ []) us k)
+        where
+          later : StandsIn v (tree_of x.now ∷ []) ⊎ StandsIn v us → StandsIn v (bs ++ us) ⊎ StandsIn v (tree_of x.now ∷ [])
+          later (inl h) = inr h
+          later (inr h) = inl (in_second v bs us h)
+
+      outer : (v : Variable) → StandsIn v bs ⊎ StandsIn v us → StandsIn v (bs ++ tree_of x.now ∷ us)
+      outer v (inl k) = in_first v bs (tree_of x.now ∷ us) k
+      outer v (inr k) = in_second v bs (tree_of x.now ∷ us) (in_second v (tree_of x.now ∷ []) us k)
+
+      joins : (v : Variable) → StandsIn v (bs ++ us) ⊎ StandsIn v (tree_of x.now ∷ []) → StandsIn v (bs ++ tree_of x.now ∷ us)
+      joins v (inl k) = outer v (in_both v bs us k)
+      joins v (inr k) = in_second v bs (tree_of x.now ∷ us) (in_first v (tree_of x.now ∷ []) us k)
+
+      both : (v : Variable) → StandsIn v (bs ++ tree_of x.now ∷ us) ↔ (StandsIn v (bs ++ us) ⊎ StandsIn v (tree_of x.now ∷ []))
+      both v = ((λ at. apart v (in_both v bs (tree_of x.now ∷ us) at)), joins v)
+
+  -- a symbol without arguments
+  pub first_bare : (t : Tree) (f : SymId) (xs : List (Bor Node)) (first : Option Variable) → t ≡ App f (trees_of xs) → xs ≡ [] → IsFirst after first (t ∷ []) first
+  first_bare t f xs first is none = first_app first first t f (trees_of xs) is (subst (λ l. IsFirst after first (trees_of l) first) (sym none) (first_none first))
+
+  -- one term more
+  pub first_more : (xs : List (Bor Node)) (at : ℕ) (d : Bor Node) (given first one : Option Variable) → at < length xs → IsFirst after first (tree_of (slice_index_or xs at d).now ∷ []) one
+      → ((r : Option Variable) → IsFirst after first (trees_of (drop at xs)) r → IsFirst after given (trees_of xs) r)
+      → (r : Option Variable) → IsFirst after one (trees_of (drop (at + 1) xs)) r → IsFirst after given (trees_of xs) r
+  first_more xs at d given first one within a so_far r b =
+      so_far r (subst (λ l. IsFirst after first (trees_of l) r) (sym (drop_get xs at d within)) (first_append first one r (tree_of (slice_index_or xs at d).now ∷ []) (trees_of (drop (at + 1) xs)) a b))
+
+  pub first_all : (xs : List (Bor Node)) (at : ℕ) (given first : Option Variable) → length xs ≤ at
+      → ((r : Option Variable) → IsFirst after first (trees_of (drop at xs)) r → IsFirst after given (trees_of xs) r) → IsFirst after given (trees_of xs) first
+  first_all xs at given first over so_far = so_far first (subst (λ l. IsFirst after first (trees_of l) first) (sym (drop_all at xs over)) (first_none first))

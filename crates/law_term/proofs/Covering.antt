@@ -16,14 +16,10 @@ use Rattle.law_bank.specs.Terms.{tree_of}
 use Rattle.law_bank.specs.Bank.{Terms, capped}
 use Rattle.law_bank.specs.Orders.{AreComparable}
 use Rattle.law_bank.proofs.OrderFacts.{exact}
-use Rattle.law_term.specs.Variables.{Variable, VarBefore, IsBehind, IsUpto, StandsIn, IsFirst}
-use Rattle.law_term.proofs.Counting.{in_tree, times_none, times_light, before_yes, before_no, before_chain, never_before}
+use Rattle.law_term.specs.Variables.{Variable, VarBefore, IsBehind, is_behind, IsUpto, StandsIn, IsFirst}
+use Rattle.law_term.proofs.Counting.{in_tree, times_none, times_light, before_yes, before_no, before_chain, never_before, behind_is}
 
 -- How many variables of a term are left
-
-abbrev pub is_behind : Option Variable → Variable → Bool
-is_behind None v = true
-is_behind (Some u) v = comes_before u.0 u.1 v.0 v.1
 
 abbrev pub count_behind : Option Variable → List Variable → ℕ
 count_behind o [] = 0
@@ -31,18 +27,6 @@ count_behind o (v ∷ vs) = if is_behind o v then 1 + count_behind o vs else cou
 
 abbrev pub behind_count : Option Variable → Tree → ℕ
 behind_count o t = count_behind o (vars t)
-
-behind_is : (o : Option Variable) (v : Variable) → IsBehind o v → is_behind o v ≡ true
-behind_is None v h = refl
-behind_is (Some u) v h = by (comes_before u.0 u.1 v.0 v.1) refl
-  where
-    again : (v ≡ u) ⊎ VarBefore v u → ⊥
-    again (inl e) = never_before u (subst (VarBefore u) e h)
-    again (inr k) = never_before u (before_chain u v u h k)
-
-    by : (b : Bool) → comes_before u.0 u.1 v.0 v.1 ≡ b → b ≡ true
-    by true e = refl
-    by false e = absurd (again (before_no u v e))
 
 -- what stands behind a later variable stands behind an earlier one
 module _ (o : Option Variable) (u : Variable) (own : IsBehind o u) where

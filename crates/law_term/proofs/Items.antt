@@ -1,5 +1,5 @@
 -- Items of lists of terms, one after another.
-use Rattle.std.proofs.Common.{◌≡◌, ℕ, zero, suc, ◌+◌, ◌-◌, ◌^◌, ◌<◌, ◌≤◌, min, List, [], ◌∷◌, length, map, drop, slice_index_or, slice_get, None, ap, sym, ◌∙◌, refl, arith}
+use Rattle.std.proofs.Common.{◌≡◌, ℕ, zero, suc, ◌+◌, ◌-◌, ◌^◌, ◌<◌, ◌≤◌, min, List, [], ◌∷◌, length, map, drop, slice_index_or, slice_get, Option, Some, None, MatchOption, ap, sym, ◌∙◌, refl, subst, arith}
 use Rattle.std.proofs.lemmas.List.{length-map, drop_all}
 use denote.Bor.{Bor}
 use Rattle.law_sig.specs.Lists.{Each, total}
@@ -43,3 +43,10 @@ sum_end g args at count whole over c =
     let e : drop at (map g (trees_of args)) ≡ [] = drop_all at (map g (trees_of args)) (omega arith) in
     let w : min (count + 0) (2 ^ 64 - 1) ≡ min whole (2 ^ 64 - 1) = ap (λ l. min (count + total l) (2 ^ 64 - 1)) (sym e) ∙ c.is_whole in
     let f = c.fits in omega arith
+
+-- what is said of an answer, where it is known
+pub when_none : {A : Type 0} (o : Option A) (P : Type 0) (Q : A → Type 0) → o ≡ None → MatchOption o P Q → P
+when_none o P Q e h = subst (λ z. MatchOption z P Q) e h
+
+pub when_some : {A : Type 0} (o : Option A) (x : A) (P : Type 0) (Q : A → Type 0) → o ≡ Some x → MatchOption o P Q → Q x
+when_some o x P Q e h = subst (λ z. MatchOption z P Q) e h

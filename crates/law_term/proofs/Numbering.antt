@@ -119,13 +119,6 @@ next_var_is vars old new sort n i u is less set t g p q = (
 pub too_many_is : (vars old : List ℕ) (sort : SortId) (i : ℕ) (t : Tree) → t ≡ Var sort i → number_at vars sort ≤ number_at old sort → AreTooMany vars old (t ∷ [])
 too_many_is vars old sort i t e h = subst (λ z. AreTooMany vars old (z ∷ [])) (sym e) (too_many_var vars old sort i h)
 
--- what is said of an answer, where it is known
-pub when_none : {A : Type 0} (o : Option A) (P : Type 0) (Q : A → Type 0) → o ≡ None → MatchOption o P Q → P
-when_none o P Q e h = subst (λ z. MatchOption z P Q) e h
-
-pub when_some : {A : Type 0} (o : Option A) (x : A) (P : Type 0) (Q : A → Type 0) → o ≡ Some x → MatchOption o P Q → Q x
-when_some o x P Q e h = subst (λ z. MatchOption z P Q) e h
-
 -- Lists of terms
 
 holes_append : (s : SortId) (ss ts : List Tree) → holes_in s (ss ++ ts) ≡ holes_in s ss ++ holes_in s ts

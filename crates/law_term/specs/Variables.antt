@@ -1,9 +1,10 @@
 -- The variables of terms: each once in order of first occurrence, how often one stands there, and one after another in order.
-use Rattle.std.specs.Prelude.{◌≡◌, ℕ, ◌+◌, ◌-◌, ◌<◌, ◌^◌, ◌⊎◌, ◌↔◌, min, List, [], ◌∷◌, ◌++◌, map, if◌then◌else◌, Option, None, Some}
+use Rattle.std.specs.Prelude.{◌≡◌, ℕ, ◌+◌, ◌-◌, ◌<◌, ◌^◌, ◌⊎◌, ◌↔◌, min, Bool, true, List, [], ◌∷◌, ◌++◌, map, if◌then◌else◌, Option, None, Some}
 use Rattle.law_sig.specs.Lists.{In}
 use Rattle.law_sig.specs.Trees.{same_sort, joined, holes}
 use Rattle.law_sig.specs.declared.tree.SortId.{SortId}
 use Rattle.law_sig.specs.declared.tree.Tree.{Tree}
+use Rattle.law_bank.specs.Bindings.{comes_before}
 use Rattle.law_rewriting.specs.Pairs.{firsts, place_of}
 
 -- a variable by its sort and its index
@@ -41,6 +42,10 @@ VarBefore v u = (v.0.0 < u.0.0) ⊎ ((v.0 ≡ u.0) × (v.1 < u.1))
 abbrev pub IsBehind : Option Variable → Variable → Type 0
 IsBehind None v = Unit {0}
 IsBehind (Some u) v = VarBefore u v
+
+abbrev pub is_behind : Option Variable → Variable → Bool
+is_behind None v = true
+is_behind (Some u) v = comes_before u.0 u.1 v.0 v.1
 
 -- v is the one that is given, or stands behind it
 abbrev pub IsUpto : Option Variable → Variable → Type 0

@@ -193,6 +193,20 @@ fn changed<'a>(
     }
 }
 
+/// Two terms in a list.
+fn both<'a>(alloc: Global, left: Term<'a>, right: Term<'a>) -> Result<Vec<Term<'a>>, NoMemory>
+    ensures { IfOk result (λ terms. terms.items ≡ left.entry ∷ right.entry ∷ []) }
+{
+    let mut terms = Vec::new(alloc);
+    let Ok(()) = terms.push(left) else {
+        return Err(NoMemory);
+    };
+    let Ok(()) = terms.push(right) else {
+        return Err(NoMemory);
+    };
+    Ok(terms)
+}
+
 impl<'a> TermBank<'a> {
     /// The schema of a term: every variable is the first of its sort.
     pub fn flatten(&mut self, term: Term<'a>) -> Result<Term<'a>, NoMemory>
@@ -237,8 +251,8 @@ impl<'a> TermBank<'a> {
         ensures held { IfOk result (λ e. IsOf self.new e.left.now × IsOf self.new e.right.now) }
         ensures grows { Grows self.old self.new }
     {
-        let terms = [left, right];
-        let variables = self.variables(&terms)?;
+        let sides = both(self.alloc(), left, right)?;
+        let variables = self.variables(sides.as_slice())?;
         let renumber = Change::Renumber(variables.as_slice());
         let new_left = changed(self, renumber, left)?;
         let new_right = changed(self, renumber, right)?;

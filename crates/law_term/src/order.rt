@@ -7,7 +7,7 @@ ghost use Rattle.law_sig.specs.declared.parts.SigParts.{SigParts};
 ghost use Rattle.law_bank.specs.declared.node.Node.{out-Node};
 ghost use Rattle.law_bank.specs.Terms.{tree_of};
 ghost use Rattle.law_bank.specs.Bank.{Terms, IsOf};
-ghost use Rattle.law_bank.specs.Orders.{AreComparable, first_other, heads_cmp, roots_cmp, flat, symbols_cmp, kbo_cmp};
+ghost use Rattle.law_bank.specs.Orders.{AreComparable, first_other, heads_cmp, roots_cmp, flat, flat_cmp, symbols_cmp, kbo_cmp};
 ghost use Rattle.law_term.specs.Pairs.{both_of};
 
 use super::vars::has_vars_of;
@@ -100,6 +100,13 @@ fn flat(head: Head) -> Head
     }
 }
 
+/// The weights, and then the heads of the schemas.
+fn compare_flat(a: Term<'_>, b: Term<'_>) -> Ordering
+    ensures { result ≡ flat_cmp a.now b.now }
+{
+    a.weight.cmp(&b.weight).then(compare_heads(flat(a.head), flat(b.head)))
+}
+
 /// The order K of the schemas. It recurs as deep as the terms are.
 fn compare_schemas(a: Term<'_>, b: Term<'_>) -> Ordering
     ensures { (bank : Terms) (parts : SigParts) → AreComparable bank parts a.now b.now → result ≡ compare_k parts (schema_of (tree_of a.now)) (schema_of (tree_of b.now)) }
@@ -107,7 +114,7 @@ fn compare_schemas(a: Term<'_>, b: Term<'_>) -> Ordering
     if a.id == b.id {
         return Ordering::Equal;
     }
-    match a.weight.cmp(&b.weight).then(compare_heads(flat(a.head), flat(b.head))) {
+    match compare_flat(a, b) {
         Ordering::Less => return Ordering::Less,
         Ordering::Greater => return Ordering::Greater,
         Ordering::Equal => {}

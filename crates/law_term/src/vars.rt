@@ -1,4 +1,4 @@
-ghost use Rattle.std.specs.Prelude.{◌≡◌, ◌↔◌, ◌<◌, length, [], ◌∷◌, IsTrue};
+ghost use Rattle.std.specs.Prelude.{◌≡◌, ◌↔◌, ◌<◌, length, [], ◌∷◌, ◌++◌, IsTrue, MatchOption};
 ghost use Rattle.law_sig.specs.Trees.{holes};
 ghost use Rattle.law_sig.specs.Kbo.{times, HasVarsOf};
 ghost use Rattle.law_sig.specs.declared.tree.Tree.TheVariants.{Var};
@@ -6,7 +6,7 @@ ghost use Rattle.law_sig.specs.declared.parts.SigParts.{SigParts};
 ghost use Rattle.law_bank.specs.Terms.{tree_of, trees_of};
 ghost use Rattle.law_bank.specs.Bank.{Terms, capped};
 ghost use Rattle.law_bank.specs.Orders.{AreComparable};
-ghost use Rattle.law_term.specs.Variables.{holes_in, IsFirst};
+ghost use Rattle.law_term.specs.Variables.{holes_in, is_behind, IsFirst};
 
 use super::at::At;
 use super::subst::{comes_before, is_variable};
@@ -26,6 +26,25 @@ fn largest(args: &[Term<'_>]) -> usize
         }
     }
     most
+}
+
+/// Arguments around one of them.
+#[derive(Clone, Copy)]
+pub struct Apart<'a> {
+    pub before: &'a [Term<'a>],
+    pub term: Term<'a>,
+    pub after: &'a [Term<'a>],
+}
+
+/// The argument with the most nodes, and those around it.
+fn take_apart<'a>(args: &'a [Term<'a>]) -> Option<Apart<'a>>
+    ensures { MatchOption result (args.now ≡ []) (λ p. args.now ≡ p.before.now ++ p.term ∷ p.after.now) }
+{
+    if args.is_empty() {
+        return None;
+    }
+    let last = largest(args);
+    Some(Apart { before: &args[..last], term: args[last], after: &args[last + 1..] })
 }
 
 /// How often a variable stands in these terms, or 2^64 - 1 where that is less.
@@ -55,14 +74,22 @@ fn occurrences(term: Term<'_>, sort: SortId, index: u32) -> u64
             }
             return count;
         }
-        let args = at.term.args;
-        if args.is_empty() {
+        let Some(parts) = take_apart(at.term.args) else {
             return count;
-        }
-        let last = largest(args);
-        count = count.saturating_add(occurrences_among(&args[..last], sort, index));
-        count = count.saturating_add(occurrences_among(&args[last + 1..], sort, index));
-        at = At { term: args[last] };
+        };
+        count = count.saturating_add(occurrences_among(parts.before, sort, index));
+        count = count.saturating_add(occurrences_among(parts.after, sort, index));
+        at = At { term: parts.term };
+    }
+}
+
+/// Whether a variable stands behind the one that is given, if any.
+fn is_behind(after: Option<(SortId, u32)>, sort: SortId, index: u32) -> bool
+    ensures { result ≡ is_behind after (sort, index) }
+{
+    match after {
+        Some((own, number)) => comes_before(own, number, sort, index),
+        None => true,
     }
 }
 
@@ -75,17 +102,16 @@ fn first_of(
 ) -> Option<(SortId, u32)>
     ensures { IsFirst after given (Var sort index ∷ []) result }
 {
-    if let Some((own, number)) = after {
-        if !comes_before(own, number, sort, index) {
-            return given;
-        }
+    if !is_behind(after, sort, index) {
+        return given;
     }
-    if let Some((own, number)) = given {
-        if !comes_before(sort, index, own, number) {
-            return given;
-        }
+    let Some((own, number)) = given else {
+        return Some((sort, index));
+    };
+    if comes_before(sort, index, own, number) {
+        return Some((sort, index));
     }
-    Some((sort, index))
+    given
 }
 
 /// The first of the variables of these terms that stand behind another one, and of one that is given.
@@ -119,14 +145,12 @@ fn first_in(
         if let Head::Var(sort, index) = at.term.head {
             return first_of(after, first, sort, index);
         }
-        let args = at.term.args;
-        if args.is_empty() {
+        let Some(parts) = take_apart(at.term.args) else {
             return first;
-        }
-        let last = largest(args);
-        first = first_among(&args[..last], after, first);
-        first = first_among(&args[last + 1..], after, first);
-        at = At { term: args[last] };
+        };
+        first = first_among(parts.before, after, first);
+        first = first_among(parts.after, after, first);
+        at = At { term: parts.term };
     }
 }
 

@@ -24,8 +24,8 @@ fn written(alloc: Global, term: Term<'_>) -> Result<Tree, NoMemory>
 }
 
 impl<'a> TermBank<'a> {
-    /// The term of a tree. It recurs as deep as the tree is, which is at most 32 deep in the search. What was added before a
-    /// refusal stays in the bank.
+    /// The term of a tree. It recurs as deep as the tree is, which is at most 256, the bound of written terms. What was added before
+    /// a refusal stays in the bank.
     pub fn from_tree(&mut self, tree: &Tree) -> Result<Term<'a>, NoMemory>
         ensures tree { IfOk result (λ t. tree_of t.now ≡ tree.now) }
         ensures held { IfOk result (λ t. IsOf self.new t.now) }
@@ -51,7 +51,7 @@ impl<'a> TermBank<'a> {
     }
 
     /// The tree of a term. It takes time in the number of the tree's nodes, which may be far more than the term's, and recurs as
-    /// deep as the tree is; the search asks for trees of at most 32 nodes.
+    /// deep as the tree is, which is at most 256, the bound of written terms.
     pub fn to_tree(&self, term: Term<'a>) -> Result<Tree, NoMemory>
         ensures { IfOk result (λ tree. tree ≡ tree_of term.now) }
     {

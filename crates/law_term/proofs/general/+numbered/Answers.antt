@@ -7,9 +7,9 @@ use Rattle.law_bank.specs.declared.node.Node.TheViews.{the_lemmas}
 use Rattle.law_bank.specs.Terms.{tree_of, trees_of}
 use Rattle.law_bank.specs.Bank.{IsOf}
 use Rattle.law_bank.proofs.BankFacts.{var_tree, sym_tree, stays, below, grows_on}
-use Rattle.law_term.proofs.Items.{each_get}
+use Rattle.law_term.proofs.Items.{each_get, when_none, when_some}
 use Rattle.law_term.proofs.ReadFacts.{read_held}
-use Rattle.law_term.proofs.Numbering.{too_many_is, next_var_is, numbering_stops, numbering_on, numbered_schema, numbered_next, when_none, when_some}
+use Rattle.law_term.proofs.Numbering.{too_many_is, next_var_is, numbering_stops, numbering_on, numbered_schema, numbered_next}
 use Rattle.law_term.proofs.general.+numbered.Goals as goal
 
 pub returns-in_default-clause-next : goal.returns-in_default-clause-next

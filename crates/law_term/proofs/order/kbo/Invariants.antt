@@ -3,8 +3,8 @@ use Rattle.law_bank.specs.Terms.{tree_of}
 use Rattle.law_term.specs.Pairs.{StandForGreater}
 use Rattle.law_term.proofs.order.kbo.Given as goal
 
-abbrev pub invariant-loop-both : goal.invariant-loop-both
-invariant-loop-both l = StandForGreater l.a l.b l.both.left.now l.both.right.now
+abbrev pub invariant-loop-below : goal.invariant-loop-below
+invariant-loop-below l = StandForGreater l.a l.b l.both.left.now l.both.right.now
 
-abbrev pub decreases-loop-both : goal.decreases-loop-both
-decreases-loop-both l = node_count (tree_of l.both.left.now)
+abbrev pub decreases-loop-below : goal.decreases-loop-below
+decreases-loop-below l = node_count (tree_of l.both.left.now)

@@ -18,12 +18,12 @@ invariant-occurrences_among-loop-term l = record {
   so_far : capped (l.count + in_trees l.sort l.index (trees_of (drop l.term-index l.terms))) ≡ capped (in_trees l.sort l.index (trees_of l.terms));
 }
 
-abbrev pub invariant-occurrences-loop-count : goal.invariant-occurrences-loop-count
-invariant-occurrences-loop-count l = record {
+abbrev pub invariant-occurrences-loop-at : goal.invariant-occurrences-loop-at
+invariant-occurrences-loop-at l = record {
   small : l.count < 2 ^ 64;
   fewer : node_count (tree_of l.at.term.now) ≤ node_count (tree_of l.term);
   so_far : capped (l.count + in_tree l.sort l.index (tree_of l.at.term.now)) ≡ capped (in_tree l.sort l.index (tree_of l.term));
 }
 
-abbrev pub decreases-occurrences-loop-count : goal.decreases-occurrences-loop-count
-decreases-occurrences-loop-count l = node_count (tree_of l.at.term.now)
+abbrev pub decreases-occurrences-loop-at : goal.decreases-occurrences-loop-at
+decreases-occurrences-loop-at l = node_count (tree_of l.at.term.now)

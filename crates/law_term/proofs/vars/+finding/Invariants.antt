@@ -12,13 +12,13 @@ abbrev pub decreases-first_in : goal.decreases-first_in
 decreases-first_in l = 2 * node_count (tree_of l.term.now)
 
 abbrev pub invariant-first_among-loop-term : goal.invariant-first_among-loop-term
-invariant-first_among-loop-term l = (r : Option Variable) → IsFirst l.after l.first (trees_of (drop l.term-index l.terms)) r → IsFirst l.after l.given (trees_of l.terms) r
+invariant-first_among-loop-term l = (r : Option Variable) → IsFirst l.after l.first (trees_of (drop l.term-index l.terms)) r → IsFirst l.after l.fn.given (trees_of l.terms) r
 
-abbrev pub invariant-first_in-loop-first : goal.invariant-first_in-loop-first
-invariant-first_in-loop-first l = record {
+abbrev pub invariant-first_in-loop-at : goal.invariant-first_in-loop-at
+invariant-first_in-loop-at l = record {
   fewer : node_count (tree_of l.at.term.now) ≤ node_count (tree_of l.term);
-  rest : (r : Option Variable) → IsFirst l.after l.first (tree_of l.at.term.now ∷ []) r → IsFirst l.after l.given (tree_of l.term ∷ []) r;
+  rest : (r : Option Variable) → IsFirst l.after l.first (tree_of l.at.term.now ∷ []) r → IsFirst l.after l.fn.given (tree_of l.term ∷ []) r;
 }
 
-abbrev pub decreases-first_in-loop-first : goal.decreases-first_in-loop-first
-decreases-first_in-loop-first l = node_count (tree_of l.at.term.now)
+abbrev pub decreases-first_in-loop-at : goal.decreases-first_in-loop-at
+decreases-first_in-loop-at l = node_count (tree_of l.at.term.now)
