@@ -23,7 +23,8 @@ use Rattle.law_bank.specs.Bank.{Terms, IsOf, Grows, sorts_by}
 use Rattle.law_bank.specs.Bindings.{Binding, binds_of, subst_of, AreRising}
 use Rattle.law_term.specs.declared.equation.Eqn.{Eqn}
 use Rattle.law_term.specs.Substs.{variable_of}
-use Rattle.law_match.specs.Directed.{directed, equation_of, IsEqnOf}
+use Rattle.law_term.specs.Equations.{equation_of}
+use Rattle.law_match.specs.Directed.{directed, IsEqnOf}
 use Rattle.law_match.specs.Visited.{AreVariables}
 use Rattle.law_match.specs.Filled.{Binds, AreFilled}
 use Rattle.law_index.specs.Index.{Agree, IsBankOf, AppliesBy}

@@ -16,7 +16,7 @@ use Rattle.law_rewriting.specs.Roots.{at_root, IsRootStep, HasNoRootStep, Applie
 use Rattle.law_rewriting.proofs.Places.{numbers_decided, at_root as root_source}
 use Rattle.law_bank.specs.Bindings.{binds_of, subst_of}
 use Rattle.law_term.specs.declared.equation.EqId.{EqId}
-use Rattle.law_match.specs.Directed.{equation_of}
+use Rattle.law_term.specs.Equations.{equation_of}
 use Rattle.law_index.specs.Index.{Entry, rules_in, IsHit}
 use Rattle.law_index.specs.declared.hit.Hit.{Hit}
 use Rattle.law_index.specs.declared.side.Rule.{Rule}

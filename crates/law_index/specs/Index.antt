@@ -18,7 +18,8 @@ use Rattle.law_bank.specs.Bank.{Terms, sorts_by}
 use Rattle.law_bank.specs.Bindings.{Binding, binds_of, subst_of}
 use Rattle.law_term.specs.declared.equation.EqId.{EqId}
 use Rattle.law_term.specs.declared.equation.Eqn.{Eqn}
-use Rattle.law_match.specs.Directed.{equation_of, IsEqnOf}
+use Rattle.law_term.specs.Equations.{equation_of}
+use Rattle.law_match.specs.Directed.{IsEqnOf}
 use Rattle.law_index.specs.declared.hit.Hit.{Hit}
 
 -- Equations

@@ -9,7 +9,8 @@ use Rattle.law_rewriting.specs.Steps.{Forward}
 use Rattle.law_rewriting.specs.Roots.{AppliesNot}
 use Rattle.law_bank.specs.Terms.{tree_of}
 use Rattle.law_bank.specs.Bank.{Terms, IsOf}
-use Rattle.law_match.specs.Directed.{directed, equation_of, IsEqnOf}
+use Rattle.law_term.specs.Equations.{equation_of}
+use Rattle.law_match.specs.Directed.{directed, IsEqnOf}
 use Rattle.law_match.specs.Visited.{AreVariables}
 use Rattle.law_index.specs.Index.{Entry, AppliesBy}
 use Rattle.law_index.specs.declared.hit.Hit.{Hit}

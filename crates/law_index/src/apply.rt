@@ -6,7 +6,8 @@ ghost use Rattle.law_bank.specs.Terms.{tree_of};
 ghost use Rattle.law_bank.specs.Bank.{IsOf, Grows};
 ghost use Rattle.law_bank.specs.Bindings.{AllBound, AreRising};
 ghost use Rattle.law_rewriting.specs.Roots.{AppliesNot};
-ghost use Rattle.law_match.specs.Directed.{equation_of, IsEqnOf};
+ghost use Rattle.law_term.specs.Equations.{equation_of};
+ghost use Rattle.law_match.specs.Directed.{IsEqnOf};
 ghost use Rattle.law_index.specs.Index.{IsBankOf, AppliesBy};
 ghost use Rattle.law_index.specs.Sides.{HasVariables, AllRulesOf, FailsBy, HitsBy};
 

@@ -1,14 +1,14 @@
 -- A variable is bound to a term, in two terms and in all that is bound.
-use Rattle.std.proofs.Common.{◌≡◌, ◌≢◌, ℕ, ◌+◌, ◌≤◌, ◌<◌, ◌⊎◌, inl, inr, List, [], ◌∷◌, ◌++◌, length, map, drop, slice_index_or, append-nil, append_assoc, Option, Some, None, MatchOption, ap, ap₂, sym, ◌∙◌, refl, subst, arith}
+use Rattle.std.proofs.Common.{◌≡◌, ◌≢◌, ℕ, ◌+◌, ◌≤◌, ◌<◌, ◌⊎◌, inl, inr, List, [], ◌∷◌, ◌++◌, length, drop, slice_index_or, append-nil, append_assoc, Option, Some, None, MatchOption, ap, sym, ◌∙◌, subst}
 use Rattle.std.proofs.lemmas.List.{drop_more, drop_all, map-append}
 use denote.Bor.{Bor}
-use Rattle.law_sig.specs.Lists.{In, Each}
+use Rattle.law_sig.specs.Lists.{In}
 use Rattle.law_sig.specs.Trees.{holes, substituted}
 use Rattle.law_sig.specs.declared.tree.SortId.{SortId}
 use Rattle.law_sig.specs.declared.tree.Tree.{Tree}
 use Rattle.law_sig.specs.declared.tree.Tree.TheVariants.{Var}
 use Rattle.law_sig.specs.declared.chain.Bind.{Bind}
-use Rattle.law_laws.proofs.ListFacts.{each_map, each_both, of_each}
+use Rattle.law_laws.proofs.ListFacts.{each_map, each_both}
 use Rattle.law_laws.proofs.TreeFacts.{substituted_itself}
 use Rattle.law_rewriting.specs.Heads.{Sorts, head_sort}
 use Rattle.law_rewriting.specs.Unifiers.{NoUnifier, AreUnifier}
@@ -19,14 +19,13 @@ use Rattle.law_rewriting.proofs.Putting.{single_own, single_rests}
 use Rattle.law_rewriting.proofs.Turns.{bind_turn, stuck, other_sort, occurs, all_done, same_turn}
 use Rattle.law_rewriting.proofs.Variables.{in_decided, agreed}
 use Rattle.law_rewriting.proofs.Vars.{vars}
-use Rattle.law_bank.specs.declared.node.Node.{Node, out-Node}
+use Rattle.law_bank.specs.declared.node.Node.{Node}
 use Rattle.law_bank.specs.Terms.{tree_of, id_of}
-use Rattle.law_bank.specs.Bank.{Terms, IsOf, IsShared, Grows, sorts_by}
+use Rattle.law_bank.specs.Bank.{Terms, IsOf, IsShared, Grows}
 use Rattle.law_bank.specs.Bindings.{Binding, bind_of, binds_of, subst_of, AllBound}
-use Rattle.law_bank.proofs.BankFacts.{stays, grows_on, same_tree, same_id}
+use Rattle.law_bank.proofs.BankFacts.{stays, same_tree, same_id}
 use Rattle.law_match.specs.declared.unifier.Pair.{Pair}
-use Rattle.law_match.specs.Unifying.{Opens, IsBound, AreHeld}
-use Rattle.law_match.proofs.Items.{in_at}
+use Rattle.law_match.specs.Unifying.{Opens, IsBound}
 
 -- A bank grows
 

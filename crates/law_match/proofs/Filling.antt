@@ -1,5 +1,5 @@
 -- Variables that a match leaves, one after another.
-use Rattle.std.proofs.Common.{◌≡◌, ◌↔◌, ℕ, ◌+◌, ◌≤◌, ◌<◌, ◌⊎◌, inl, inr, Bool, true, false, true≢false, if◌then◌else◌, List, [], ◌∷◌, ◌++◌, length, map, take, Option, None, Some, MatchOption, slice_index_or, ap, sym, ◌∙◌, refl, subst, arith}
+use Rattle.std.proofs.Common.{◌≡◌, ℕ, ◌+◌, ◌≤◌, ◌<◌, ◌⊎◌, inl, inr, Bool, true, false, if◌then◌else◌, List, [], ◌∷◌, ◌++◌, length, map, take, Option, None, Some, MatchOption, slice_index_or, ap, sym, ◌∙◌, refl, subst}
 use Rattle.std.specs.Option.{is_some}
 use Rattle.std.proofs.lemmas.List.{take_more, take_all, map-append}
 use denote.Bor.{Bor}
@@ -7,7 +7,6 @@ use Rattle.law_sig.specs.Lists.{In}
 use Rattle.law_sig.specs.Lists.In.{here}
 use Rattle.law_sig.specs.Chains.{is_bound}
 use Rattle.law_sig.specs.declared.tree.SortId.{SortId}
-use Rattle.law_sig.specs.declared.tree.Tree.{Tree}
 use Rattle.law_sig.specs.declared.tree.Tree.TheVariants.{Var}
 use Rattle.law_laws.proofs.ListFacts.{in_none, in_rest, in_left, in_right, in_split, in_map}
 use Rattle.law_rewriting.proofs.Binds.{bound_is, bound_itself}

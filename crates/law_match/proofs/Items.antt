@@ -1,6 +1,5 @@
 -- Items of lists.
-use Rattle.std.proofs.Common.{◌≡◌, ℕ, zero, suc, ◌+◌, ◌<◌, ◌⊎◌, inl, inr, List, [], ◌∷◌, length, map, drop, slice_index_or, ap, sym, refl, subst, arith}
-use Rattle.std.proofs.lemmas.List.{drop_more}
+use Rattle.std.proofs.Common.{◌≡◌, ℕ, zero, suc, ◌<◌, ◌⊎◌, inl, inr, List, [], ◌∷◌, length, map, slice_index_or, sym, refl, arith}
 use Rattle.law_sig.specs.Lists.{In}
 use Rattle.law_sig.specs.Lists.In.{here, there}
 use Rattle.law_laws.proofs.ListFacts.{in_none, in_rest}

@@ -1,5 +1,5 @@
 -- Going down to where two terms differ.
-use Rattle.std.proofs.Common.{◌≡◌, ◌≢◌, ℕ, zero, suc, ◌+◌, ◌≤◌, ◌<◌, ◌⊎◌, inl, inr, List, [], ◌∷◌, ◌++◌, length, map, drop, slice_index_or, ap, ap₂, sym, ◌∙◌, refl, subst, arith}
+use Rattle.std.proofs.Common.{◌≡◌, ◌≢◌, ℕ, zero, suc, ◌+◌, ◌≤◌, ◌<◌, ◌⊎◌, inl, inr, List, [], ◌∷◌, ◌++◌, length, map, drop, slice_index_or, ap, ap₂, sym, ◌∙◌, subst, arith}
 use Rattle.std.proofs.lemmas.List.{drop_more, drop_all, length-map}
 use denote.Bor.{Bor}
 use Rattle.law_sig.specs.Lists.{In, total}
@@ -8,22 +8,20 @@ use Rattle.law_sig.specs.Trees.{node_count, substituted}
 use Rattle.law_sig.specs.declared.tree.SortId.{SortId}
 use Rattle.law_sig.specs.declared.tree.SymId.{SymId}
 use Rattle.law_sig.specs.declared.tree.Tree.{Tree}
-use Rattle.law_sig.specs.declared.tree.Tree.TheVariants.{Var, App}
+use Rattle.law_sig.specs.declared.tree.Tree.TheVariants.{App}
 use Rattle.law_sig.specs.declared.chain.Bind.{Bind}
 use Rattle.law_sig.specs.Chains.{bound_in}
 use Rattle.law_laws.proofs.ListFacts.{in_none, in_rest, in_left, of_each}
 use Rattle.law_laws.proofs.TreeFacts.{nodes-App}
 use Rattle.law_rewriting.specs.Heads.{Sorts}
-use Rattle.law_rewriting.specs.Unifiers.{NoUnifier}
 use Rattle.law_rewriting.specs.UnifyingState.{Problems, both_args, Rests, Among, HaveOneSort, IsOpen}
 use Rattle.law_rewriting.proofs.Turns.{split_turn, swap_turn, stuck, clash, unlike}
 use Rattle.law_bank.specs.declared.node.Head.TheVariants as head
 use Rattle.law_bank.specs.declared.node.Node.{Node, out-Node}
 use Rattle.law_bank.specs.Terms.{tree_of, trees_of, id_of, ids_of}
-use Rattle.law_bank.specs.Bank.{Terms, IsOf, AllOf, IsShared}
+use Rattle.law_bank.specs.Bank.{Terms, IsOf, IsShared}
 use Rattle.law_bank.proofs.BankFacts.{var_tree, sym_tree, same_id, below, key_tree}
 use Rattle.law_match.specs.declared.unifier.Pair.{Pair}
-use Rattle.law_match.specs.declared.unifier.Difference.{Difference}
 use Rattle.law_match.specs.declared.unifier.Difference.TheVariants as difference
 use Rattle.law_match.specs.Unifying.{AreOther, Opens, IsAt, IsDifference}
 use Rattle.law_match.proofs.Items.{in_at}

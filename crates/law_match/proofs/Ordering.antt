@@ -1,9 +1,9 @@
 -- Bindings in the order of their variables are the same substitution.
-use Rattle.std.proofs.Common.{◌≡◌, ℕ, zero, suc, ◌+◌, ◌-◌, ◌≤◌, ◌<◌, ◌⊎◌, inl, inr, Bool, true, false, if◌then◌else◌, List, [], ◌∷◌, ◌++◌, length, map, take, slice_index_or, append-nil, ap, sym, ◌∙◌, refl, subst, arith}
-use Rattle.std.proofs.lemmas.List.{take_more, take_all, map-append}
-use Rattle.law_sig.specs.Lists.{In, Each}
+use Rattle.std.proofs.Common.{◌≡◌, ℕ, ◌+◌, ◌-◌, ◌≤◌, ◌<◌, ◌⊎◌, inl, inr, Bool, true, false, if◌then◌else◌, List, [], ◌∷◌, ◌++◌, length, take, slice_index_or, append-nil, ap, sym, ◌∙◌, refl, subst, arith}
+use Rattle.std.proofs.lemmas.List.{take_more, take_all}
+use Rattle.law_sig.specs.Lists.{In}
 use Rattle.law_sig.specs.Chains.{is_bound, bound_in}
-use Rattle.law_sig.specs.Trees.{Subst, holes}
+use Rattle.law_sig.specs.Trees.{Subst}
 use Rattle.law_sig.specs.declared.tree.SortId.{SortId}
 use Rattle.law_sig.specs.declared.tree.Tree.{Tree}
 use Rattle.law_sig.specs.declared.chain.Bind.{Bind}
@@ -14,7 +14,7 @@ use Rattle.law_bank.specs.Bank.{Terms, IsOf}
 use Rattle.law_bank.specs.Bindings.{Binding, bind_of, binds_of, subst_of, AllBound, AreRising, with_binding}
 use Rattle.law_bank.proofs.BindingFacts.{put_in, put_value}
 use Rattle.law_match.specs.Unifying.{AreOrdered}
-use Rattle.law_match.proofs.Items.{Made, made_from, in_at}
+use Rattle.law_match.proofs.Items.{made_from, in_at}
 
 -- these first, and then those
 abbrev pub both : List Binding → List Binding → SortId → ℕ → Tree

@@ -1,5 +1,5 @@
 -- A walk over the different nodes of two terms finds their variables.
-use Rattle.std.proofs.Common.{◌≡◌, ℕ, ◌+◌, ◌≤◌, ◌<◌, ◌==◌, ◌⊎◌, inl, inr, Bool, true, false, not, if◌then◌else◌, List, [], ◌∷◌, ◌++◌, length, map, Some, slice_get, ap, sym, ◌∙◌, refl, subst, arith, rules}
+use Rattle.std.proofs.Common.{◌≡◌, ℕ, ◌+◌, ◌<◌, ◌==◌, ◌⊎◌, inl, inr, Bool, true, false, not, if◌then◌else◌, List, [], ◌∷◌, ◌++◌, map, slice_get, ap, sym, ◌∙◌, refl, subst, arith, rules}
 use Rattle.std.specs.List.{list_any}
 use Rattle.std.proofs.lemmas.List.{map-append}
 use denote.Bor.{Bor}
@@ -12,11 +12,10 @@ use Rattle.law_sig.specs.declared.tree.Tree.{Tree}
 use Rattle.law_sig.specs.declared.tree.Tree.TheVariants.{Var, App}
 use Rattle.law_laws.proofs.BodyFacts.{some_is}
 use Rattle.law_laws.proofs.ListFacts.{in_none, in_rest, in_left, in_right, in_split, in_map, each_of, of_each, each_map, each_left, each_right, each_both}
-use Rattle.law_laws.proofs.TreeFacts.{tree_induct, tree_cases, same_var, same_app, var_no_app, holes-App, nodes-Var, nodes-App}
+use Rattle.law_laws.proofs.TreeFacts.{tree_induct, same_var, same_app, var_no_app, holes-App, nodes-App}
 use Rattle.law_rewriting.specs.UnifyingState.{Among}
 use Rattle.law_rewriting.proofs.Solving.{some_nodes}
 use Rattle.law_rewriting.proofs.Variables.{hole_here, hole_is}
-use Rattle.law_bank.specs.declared.node.Head.TheVariants as head
 use Rattle.law_bank.specs.declared.node.Node.{Node, out-Node}
 use Rattle.law_bank.specs.Terms.{tree_of, trees_of, id_of}
 use Rattle.law_bank.specs.Bank.{Terms, IsOf, AllOf}
@@ -25,7 +24,7 @@ use Rattle.law_bank.proofs.BankFacts.{named, below, var_tree, sym_tree}
 use Rattle.law_bank.proofs.BindingFacts.{put_in}
 use Rattle.law_term.specs.Substs.{variable_of}
 use Rattle.law_match.specs.Visited.{AreVariables, with_id, Search, IsSeen, IsFound, IsOpened, IsVisited, IsMet, IsNamed, IsOwn, IsSearching}
-use Rattle.law_match.proofs.Items.{Made, made_from}
+use Rattle.law_match.proofs.Items.{made_from}
 use Rattle.law_match.proofs.Putting.{put_variable, variables_kept}
 
 -- Ids
@@ -243,7 +242,7 @@ module _ (bank : Terms) (one other : Tree) where
         own_args f ts e t k =
             let same = same_app f v.symbol ts (trees_of (out-Node term.now).args.now) (e ∙ is) in
             inr (subst (λ l. In t (trees_of l)) (sym v.left) (subst (In t) (sym (map-append (λ (b : Bor Node). tree_of b.now) old.left (out-Node term.now).args.now))
-                (in_right (trees_of old.left) (subst (In t) same.1 k))))
+            (in_right (trees_of old.left) (subst (In t) same.1 k))))
 
         app : (f : SymId) (ts : List Tree) → ((t : Tree) → IsMet w.known (trees_of before.left) t → IsMet (tree_of term.now ∷ w.known) (trees_of new.left) t)
             → (App f ts ≡ tree_of term.now) ⊎ In (App f ts) w.known → Each (IsMet (tree_of term.now ∷ w.known) (trees_of new.left)) ts

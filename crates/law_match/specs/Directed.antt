@@ -1,15 +1,8 @@
 -- An equation between two terms of a bank, and the same equation from its other side.
-use Rattle.std.specs.Prelude.{◌≡◌}
-use Rattle.law_sig.specs.declared.parts.Equation.{Equation}
 use Rattle.law_sig.specs.declared.chain.Dir.{Dir}
 use Rattle.law_sig.specs.declared.chain.Dir.TheVariants as dir
-use Rattle.law_bank.specs.Terms.{tree_of}
 use Rattle.law_bank.specs.Bank.{Terms, IsOf}
 use Rattle.law_term.specs.declared.equation.Eqn.{Eqn}
-
--- the equation of the trees
-abbrev pub equation_of : Eqn → Equation
-equation_of q = record { left = tree_of q.left.now; right = tree_of q.right.now }
 
 -- both sides are terms of the bank
 pub record IsEqnOf (bank : Terms) (q : Eqn) : Type 0 where

@@ -1,5 +1,5 @@
 -- Unification of two terms, turn by turn: where they differ first, and a variable that is bound.
-use Rattle.std.specs.Prelude.{◌≡◌, ◌≢◌, ℕ, List, [], ◌∷◌, Option, Some, None}
+use Rattle.std.specs.Prelude.{◌≡◌, ◌≢◌, ℕ, List, [], ◌∷◌}
 use denote.Bor.{Bor}
 use Rattle.law_sig.specs.Lists.{In}
 use Rattle.law_sig.specs.Trees.{holes, substituted}
@@ -13,7 +13,7 @@ use Rattle.law_rewriting.specs.UnifyingState.{single, bound_more, both_args, IsO
 use Rattle.law_bank.specs.declared.node.Node.{Node}
 use Rattle.law_bank.specs.Terms.{tree_of, trees_of, id_of}
 use Rattle.law_bank.specs.Bank.{Terms, IsOf, AllOf}
-use Rattle.law_bank.specs.Bindings.{Binding, binds_of, AllBound, subst_of}
+use Rattle.law_bank.specs.Bindings.{Binding, AllBound, subst_of}
 use Rattle.law_match.specs.declared.unifier.Pair.{Pair}
 use Rattle.law_match.specs.declared.unifier.Difference.{Difference}
 use Rattle.law_match.specs.declared.unifier.Difference.TheVariants as difference

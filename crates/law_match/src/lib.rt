@@ -4,11 +4,11 @@
 
 mod direction;
 mod fill;
-mod unifier;
 mod search;
+mod unifier;
 
 pub use direction::directed;
 pub use fill::filled;
 pub use law_term::matches;
-pub use unifier::unify;
 pub use search::variables;
+pub use unifier::unify;

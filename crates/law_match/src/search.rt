@@ -42,11 +42,7 @@ fn visit<'a>(
 
 /// The variables of two terms of one bank, each bound to itself, in order. It takes time in the number of their different nodes, and
 /// the machine's stack for no depth of a term.
-pub fn variables<'a>(
-    alloc: Global,
-    one: Term<'a>,
-    other: Term<'a>,
-) -> Result<Subst<'a>, NoMemory>
+pub fn variables<'a>(alloc: Global, one: Term<'a>, other: Term<'a>) -> Result<Subst<'a>, NoMemory>
     ensures exact { IfOk result (λ s. (bank : Terms) → IsOf bank one.now → IsOf bank other.now → AreVariables (tree_of one.now) (tree_of other.now) s) }
     ensures held { IfOk result (λ s. (bank : Terms) → IsOf bank one.now → IsOf bank other.now → AllBound bank s) }
     ensures rising { IfOk result (λ s. AreRising s) }

@@ -154,10 +154,7 @@ fn bind<'a>(
 }
 
 /// Bindings, the newest first, in the order of their variables.
-fn in_order<'a>(
-    alloc: Global,
-    bound: &[(SortId, u32, Term<'a>)],
-) -> Result<Subst<'a>, NoMemory>
+fn in_order<'a>(alloc: Global, bound: &[(SortId, u32, Term<'a>)]) -> Result<Subst<'a>, NoMemory>
     ensures ordered { IfOk result (AreOrdered bound.now) }
     ensures rising { IfOk result (λ s. AreRising s) }
 {

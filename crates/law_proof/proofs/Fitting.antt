@@ -1,22 +1,17 @@
 -- Bindings of exactly the variables of an equation.
-use Rattle.std.proofs.Common.{◌≡◌, ◌↔◌, ℕ, ◌+◌, ◌≤◌, ◌<◌, ◌⊎◌, inl, inr, List, [], ◌∷◌, length, map, take, drop, slice_index_or, ap, ap₂, sym, ◌∙◌, refl, subst, arith}
+use Rattle.std.proofs.Common.{◌≡◌, ◌↔◌, ℕ, ◌+◌, ◌≤◌, ◌<◌, ◌⊎◌, List, [], ◌∷◌, length, map, drop, slice_index_or, ap, ap₂, sym, ◌∙◌, refl, subst, arith}
 use Rattle.std.proofs.lemmas.List.{drop_more, drop_all}
-use denote.Bor.{Bor}
 use Rattle.law_sig.specs.Lists.{In, Each, Rising}
-use Rattle.law_sig.specs.Trees.{holes}
 use Rattle.law_sig.specs.Chains.{StandsBefore}
 use Rattle.law_sig.specs.declared.tree.SortId.{SortId}
-use Rattle.law_sig.specs.declared.tree.Tree.{Tree}
 use Rattle.law_sig.specs.declared.tree.Tree.TheVariants.{Var}
 use Rattle.law_sig.specs.declared.chain.Bind.{Bind}
 use Rattle.law_sig.specs.declared.parts.Equation.{Equation}
-use Rattle.law_laws.proofs.ListFacts.{one_order}
-use Rattle.law_rewriting.specs.Heads.{Sorts, head_sort}
+use Rattle.law_laws.proofs.Agreement.{one_order}
+use Rattle.law_rewriting.specs.Heads.{head_sort}
 use Rattle.law_rewriting.specs.Steps.{AreBindsByHead}
 use Rattle.law_rewriting.proofs.Binds.{strict}
-use Rattle.law_bank.specs.declared.node.Node.{Node, out-Node}
-use Rattle.law_bank.specs.Terms.{tree_of}
-use Rattle.law_bank.specs.Bank.{Terms, IsOf, sorts_by}
+use Rattle.law_bank.specs.Bank.{Terms, sorts_by}
 use Rattle.law_bank.specs.Bindings.{Binding, bind_of, binds_of, AllBound, AreRising}
 use Rattle.law_bank.proofs.BankFacts.{sort_is}
 use Rattle.law_term.specs.Substs.{variable_of}
@@ -75,7 +70,7 @@ sorted_to : (bank : Terms) (xs : List Binding) → AllBound bank xs → Each Has
 sorted_to bank [] h k = tt
 sorted_to bank (x ∷ xs) h k = (sym (sort_is bank x.2.now h.0) ∙ k.0, sorted_to bank xs h.1 k.1)
 
-to_sorted : (bank : Terms) (xs : List Binding) → AllBound bank xs → Each (λ (b : Bind). head_sort (sorts_by bank.sorts) b.term ≡ b.sort) (binds_of xs) → Each HasOwnSort xs
+pub to_sorted : (bank : Terms) (xs : List Binding) → AllBound bank xs → Each (λ (b : Bind). head_sort (sorts_by bank.sorts) b.term ≡ b.sort) (binds_of xs) → Each HasOwnSort xs
 to_sorted bank [] h k = tt
 to_sorted bank (x ∷ xs) h k = (sort_is bank x.2.now h.0 ∙ k.0, to_sorted bank xs h.1 k.1)
 

@@ -1,11 +1,11 @@
 -- Lemmas stay proved while equations are added.
-use Rattle.std.proofs.Common.{◌≡◌, ℕ, zero, suc, ◌-◌, ◌<◌, List, [], ◌∷◌, ◌++◌, map, Option, Some, None, slice_get, append-nil, append_assoc, ap, sym, ◌∙◌, refl, subst, arith}
-use Rattle.law_sig.specs.Lists.{Each, numbered}
-use Rattle.law_sig.specs.declared.parts.Equation.{Equation}
+use Rattle.std.proofs.Common.{◌≡◌, ℕ, zero, suc, List, [], ◌∷◌, ◌++◌, map, Some, None, slice_get, append-nil, append_assoc, ap, sym, ◌∙◌, refl, subst}
+use Rattle.law_sig.specs.Lists.{numbered}
 use Rattle.law_laws.proofs.ListFacts.{of_each, numbered_in}
 use Rattle.law_rewriting.specs.Completion.{equation_of as completion_equation}
 use Rattle.law_bank.specs.Bank.{Terms}
-use Rattle.law_match.specs.Directed.{equation_of, IsEqnOf}
+use Rattle.law_term.specs.Equations.{equation_of}
+use Rattle.law_match.specs.Directed.{IsEqnOf}
 use Rattle.law_proof.specs.declared.kept.Kept.{Kept}
 use Rattle.law_proof.specs.declared.kept.Kept.TheVariants.{Background, Law, Lemma}
 use Rattle.law_proof.specs.Log.{eqn_of, kept_of, equations_in, AllKept, IsFounded, FoundedBehind, AreFounded}

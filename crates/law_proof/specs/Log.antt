@@ -1,5 +1,5 @@
 -- What a log says: its equations, its chains, and that the chain of each lemma replays by the equations before it.
-use Rattle.std.specs.Prelude.{◌≡◌, ℕ, List, [], ◌∷◌, ◌++◌, map}
+use Rattle.std.specs.Prelude.{◌≡◌, List, [], ◌∷◌, ◌++◌, map}
 use Rattle.law_sig.specs.Lists.{Each}
 use Rattle.law_sig.specs.declared.parts.Equation.{Equation}
 use Rattle.law_sig.specs.declared.chain.Bind.{Bind}
@@ -13,7 +13,8 @@ use Rattle.law_bank.specs.Terms.{tree_of}
 use Rattle.law_bank.specs.Bank.{Terms, IsOf}
 use Rattle.law_bank.specs.Bindings.{Binding, binds_of, AllBound}
 use Rattle.law_term.specs.declared.equation.Eqn.{Eqn}
-use Rattle.law_match.specs.Directed.{equation_of, IsEqnOf}
+use Rattle.law_term.specs.Equations.{equation_of}
+use Rattle.law_match.specs.Directed.{IsEqnOf}
 use Rattle.law_proof.specs.declared.kept.Step.{Step}
 use Rattle.law_proof.specs.declared.kept.Chain.{Chain}
 use Rattle.law_proof.specs.declared.kept.Kept.{Kept}
@@ -68,6 +69,10 @@ pub record IsProof (equations : List Equation) (q : Eqn) (c : Chain) : Type 0 wh
   pub to : tree_of c.to.now ≡ tree_of q.right.now
   pub sorted : Each (λ (s : Step). Each HasOwnSort s.subst) c.steps
   pub replays : ReplaysWith (λ (b : Bind). Unit {0}) equations (steps_of c.steps) (tree_of c.from.now) (tree_of c.to.now)
+
+-- whichever equation has the chain's first and last term as its sides: the chain is a proof of it
+abbrev pub Proves : List Equation → Chain → Type 0
+Proves equations c = (q : Eqn) → tree_of c.from.now ≡ tree_of q.left.now → tree_of c.to.now ≡ tree_of q.right.now → IsProof equations q c
 
 -- only a lemma needs a proof
 abbrev pub IsFounded : List Equation → Kept → Type 0

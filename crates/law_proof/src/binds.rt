@@ -3,7 +3,8 @@ ghost use Rattle.law_sig.specs.Lists.{Each};
 ghost use Rattle.law_rewriting.specs.Steps.{AreBindsByHead};
 ghost use Rattle.law_bank.specs.Bank.{IsOf, sorts_by};
 ghost use Rattle.law_bank.specs.Bindings.{AllBound, binds_of};
-ghost use Rattle.law_match.specs.Directed.{equation_of, IsEqnOf};
+ghost use Rattle.law_term.specs.Equations.{equation_of};
+ghost use Rattle.law_match.specs.Directed.{IsEqnOf};
 ghost use Rattle.law_proof.specs.Log.{HasOwnSort};
 ghost use Rattle.law_term.specs.Substs.{variable_of};
 
@@ -25,10 +26,7 @@ fn have_sorts(bindings: &[(SortId, u32, Term<'_>)]) -> bool
 }
 
 /// Whether two lists bind the same variables, in one order.
-fn same_variables(
-    bindings: &[(SortId, u32, Term<'_>)],
-    others: &[(SortId, u32, Term<'_>)],
-) -> bool
+fn same_variables(bindings: &[(SortId, u32, Term<'_>)], others: &[(SortId, u32, Term<'_>)]) -> bool
     ensures { IsTrue result ↔ (map variable_of bindings.now ≡ map variable_of others.now) }
 {
     if bindings.len() != others.len() {
@@ -48,11 +46,7 @@ fn same_variables(
 }
 
 /// Whether these are terms for exactly the variables of an equation, each of its variable's sort.
-pub fn are_binds<'a>(
-    bank: &TermBank<'a>,
-    eqn: Eqn<'a>,
-    subst: &Subst<'a>,
-) -> Result<bool, NoMemory>
+pub fn are_binds<'a>(bank: &TermBank<'a>, eqn: Eqn<'a>, subst: &Subst<'a>) -> Result<bool, NoMemory>
     requires eqn { IsEqnOf bank.now eqn }
     requires bound { AllBound bank.now subst.now }
     ensures { IfOk result (λ yes. IsTrue yes ↔ AreBindsByHead (sorts_by bank.now.sorts) (equation_of eqn.entry) (binds_of subst.now)) }

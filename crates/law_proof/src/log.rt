@@ -17,15 +17,15 @@ pub struct ProofLog<'a> {
 }
 
 impl<'a> Model for ProofLog<'a> {
-    ghost use Rattle.std.specs.Prelude.{List};
+    ghost use Rattle.std.specs.Prelude.{List, []};
     ghost use Rattle.std.specs.Coded.{codes};
-    ghost use Rattle.law_proof.specs.contracts.kept.Kept as kept;
+    ghost use Rattle.law_proof.specs.contracts.kept.Kept as entry;
     ghost use Rattle.law_proof.specs.declared.kept.Kept.{Kept};
     ghost use mir.Syntax.{named};
 
     ghost Value = { List Kept };
 
-    ghost coded = { Prim.hlevel (codes, (kept.the_row (record { mir = named 0; lft = [] })).coded) };
+    ghost coded = { Prim.hlevel (codes, (entry.the_row (record { mir = named 0; lft = [] })).coded) };
 
     ghost use Rattle.law_proof.specs.Log.{AreFounded};
 

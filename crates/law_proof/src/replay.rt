@@ -3,7 +3,7 @@ ghost use Rattle.law_rewriting.specs.HeadChains.{ReplaysWith, HasItsHead};
 ghost use Rattle.law_bank.specs.Terms.{tree_of};
 ghost use Rattle.law_bank.specs.Bank.{IsOf, Grows, sorts_by};
 ghost use Rattle.law_bank.specs.Bindings.{AllBound};
-ghost use Rattle.law_proof.specs.Log.{equations_in, AllKept, IsChainOf, step_of, steps_of};
+ghost use Rattle.law_proof.specs.Log.{equations_in, AllKept, IsChainOf, Proves, step_of, steps_of};
 ghost use Rattle.law_proof.specs.Replayed.{LeadsNowhere, LeadsTo};
 
 use super::binds::are_binds;
@@ -60,11 +60,12 @@ fn follow<'a>(
 
 impl<'a> ProofLog<'a> {
     /// Whether a chain leads from its first term to its last one: each step names an equation of the log, binds exactly its variables, each
-    /// to a term of its sort, and finds the instance of the side that it starts from at its place.
+    /// to a term of its sort, and finds the instance of the side that it starts from at its place. Such a chain is a proof that `add` takes.
     pub fn replay(&self, bank: &mut TermBank<'a>, chain: &Chain<'a>) -> Result<bool, NoMemory>
         requires log { AllKept bank.old self.now }
         requires chain { IsChainOf bank.old chain.now }
         ensures replays { IfOk result (λ leads. IsTrue leads ↔ ReplaysWith (HasItsHead (sorts_by bank.old.sorts)) (equations_in self.now) (steps_of chain.now.steps) (tree_of chain.now.from.now) (tree_of chain.now.to.now)) }
+        ensures proves { IfOk result (λ leads. IsTrue leads → Proves (equations_in self.now) chain.now) }
         ensures grows { Grows bank.old bank.new }
     {
         let mut current = Reached { term: chain.from };

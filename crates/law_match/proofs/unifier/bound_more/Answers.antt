@@ -1,5 +1,4 @@
 use Rattle.std.proofs.Common.{sym, subst}
-use Rattle.law_bank.specs.Terms.{tree_of}
 use Rattle.law_bank.specs.Bank.{IsOf}
 use Rattle.law_bank.specs.Bindings.{Binding, AllBound}
 use Rattle.law_bank.proofs.BankFacts.{stays, grows_on}

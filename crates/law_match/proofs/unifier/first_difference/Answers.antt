@@ -1,4 +1,4 @@
-use Rattle.std.proofs.Common.{◌≡◌, ap}
+use Rattle.std.proofs.Common.{ap}
 use Rattle.law_sig.specs.declared.tree.SymId.{SymId}
 use Rattle.law_bank.specs.Terms.{tree_of}
 use Rattle.law_match.proofs.Opening.{left_variable, right_variable, other_symbol, other_count, not_all, args_next, args_smaller}

@@ -1,4 +1,4 @@
-use Rattle.std.proofs.Common.{List, [], ◌∷◌, MatchOption, ap, sym, ◌∙◌, subst}
+use Rattle.std.proofs.Common.{List, [], ◌∷◌, MatchOption, ap, sym, subst}
 use Rattle.law_rewriting.specs.UnifyingState.{IsOpen}
 use Rattle.law_rewriting.proofs.Turns.{begun}
 use Rattle.law_bank.specs.Terms.{tree_of}

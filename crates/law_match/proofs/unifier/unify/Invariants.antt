@@ -1,4 +1,4 @@
-use Rattle.std.proofs.Common.{List, [], ◌∷◌, ◌++◌}
+use Rattle.std.proofs.Common.{[], ◌∷◌, ◌++◌}
 use Rattle.law_rewriting.specs.UnifyingState.{IsOpen}
 use Rattle.law_rewriting.proofs.Falling.{has_bind, untested}
 use Rattle.law_rewriting.proofs.Vars.{vars}
