@@ -48,6 +48,7 @@ fn go_down<'a>(way: &mut Vec<Open<'a>>, term: Term<'a>, at: usize) -> Result<(),
     requires { at < length (out-Node term.now).args.now }
     ensures { OnOk result (GoesDown term.entry at way.old.items way.new.items) }
 {
+    let args = term.args;
     let Ok(behind) = u32::try_from(at + 1) else {
         return Err(NoMemory);
     };
@@ -55,7 +56,7 @@ fn go_down<'a>(way: &mut Vec<Open<'a>>, term: Term<'a>, at: usize) -> Result<(),
         return Err(NoMemory);
     };
     let Ok(()) = way.push(Open {
-        term: term.args[at],
+        term: args[at],
         behind: 0,
     }) else {
         return Err(NoMemory);
