@@ -1,6 +1,5 @@
-ghost use Rattle.std.specs.Prelude.{◌≡◌, ◌≤◌, [], ◌∷◌, if◌then◌else◌, IfOk, MatchOption};
+ghost use Rattle.std.specs.Prelude.{◌≡◌, if◌then◌else◌, IfOk, MatchOption};
 ghost use Rattle.law_sig.specs.declared.parts.SigParts.{SigParts};
-ghost use Rattle.law_sig.specs.declared.tree.Tree.TheVariants.{App};
 ghost use Rattle.law_rewriting.specs.Completion.{tidied, lemma};
 ghost use Rattle.law_bank.specs.declared.node.Node.{out-Node};
 ghost use Rattle.law_bank.specs.Terms.{tree_of};
@@ -23,28 +22,12 @@ use indexmap::IndexSet;
 use law_bank::Head;
 use law_index::RuleIndex;
 use law_match::{directed, matches};
-use law_pairs::Pair;
+use law_pairs::{Pair, both};
 use law_proof::{Chain, Kept, ProofLog, Step};
 use law_rewrite::normal_knowing;
 use law_sig::{NoMemory, Seq, SymId};
 use law_term::{Eqn, Pos, Subst, Term, TermBank, compare_k, term_at};
 use std::cmp::Ordering;
-
-/// Two terms as the arguments of a symbol. Such a term stands for both, whatever the symbol.
-fn both<'a>(
-    bank: &mut TermBank<'a>,
-    symbol: SymId,
-    left: Term<'a>,
-    right: Term<'a>,
-) -> Result<Term<'a>, NoMemory>
-    requires left { IsOf bank.old left.now }
-    requires right { IsOf bank.old right.now }
-    ensures tree { IfOk result (λ t. tree_of t.now ≡ App symbol (tree_of left.now ∷ tree_of right.now ∷ [])) }
-    ensures held { IfOk result (λ t. IsOf bank.new t.now) }
-    ensures grows { Grows bank.old bank.new }
-{
-    bank.intern(Head::Sym(symbol), &[left, right])
-}
 
 /// The bindings of exactly the variables of both sides of an equation by which they are these two terms.
 fn instance<'a>(

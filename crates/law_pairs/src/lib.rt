@@ -1,6 +1,7 @@
 //! Extended critical pairs of the equations of a log, one after another in the order of their names.
 #![tactic(auto)]
 
+mod doubled;
 mod named;
 mod next;
 mod overlaps;
@@ -9,6 +10,7 @@ mod walk;
 ghost use Rattle.law_pairs.specs.Walk.{NewWalksFit, WalksFitOn};
 
 pub use law_proof::{Dir, EqId};
+pub use doubled::both;
 pub use named::{Pair, PairId};
 pub use walk::PairWalk;
 

@@ -13,6 +13,7 @@ ghost use Rattle.law_rewrite.specs.Rewriting.{IsSignatureOf};
 ghost use Rattle.law_pairs.specs.Names.{name_of};
 ghost use Rattle.law_pairs.specs.Overlapping.{AreLight, IsApartEqn, plain_of, AreOfBank, CannotOverlap, StandsAt, AreDirected, Qualifies, NoPair};
 
+use super::doubled::both;
 use super::named::PairId;
 use law_match::{directed, unify};
 use law_sig::NoMemory;
@@ -94,8 +95,8 @@ fn renumbered<'a>(bank: &mut TermBank<'a>, sides: Sides<'a>) -> Result<Sides<'a>
     let Head::Sym(symbol) = sides.peak.head else {
         unreachable!()
     };
-    let both = bank.intern(Head::Sym(symbol), &[sides.left, sides.right])?;
-    let made = bank.tidy(sides.peak, both)?;
+    let results = both(bank, symbol, sides.left, sides.right)?;
+    let made = bank.tidy(sides.peak, results)?;
     let results = made.right.args;
     if results.len() != 2 {
         unreachable!()

@@ -77,11 +77,11 @@ goes_down ids top above new o at t u d = inr (record {
 })
 
 -- or the term is noted
-snoc : {A : Type 0} (xs : List A) → (xs ≡ []) ⊎ ((ys : List A) × (y : A) × (xs ≡ ys ++ y ∷ []))
+snoc : (xs : List Open) → (xs ≡ []) ⊎ ((ys : List Open) × (y : Open) × (xs ≡ ys ++ y ∷ []))
 snoc [] = inl refl
 snoc (x ∷ xs) = by (snoc xs)
   where
-    by : (xs ≡ []) ⊎ ((ys : List A) × (y : A) × (xs ≡ ys ++ y ∷ [])) → (x ∷ xs ≡ []) ⊎ ((ys : List A) × (y : A) × (x ∷ xs ≡ ys ++ y ∷ []))
+    by : (xs ≡ []) ⊎ ((ys : List Open) × (y : Open) × (xs ≡ ys ++ y ∷ [])) → (x ∷ xs ≡ []) ⊎ ((ys : List Open) × (y : Open) × (x ∷ xs ≡ ys ++ y ∷ []))
     by (inl e) = inr ([], x, ap (λ l. x ∷ l) e)
     by (inr h) = inr (x ∷ h.0, h.1, ap (λ l. x ∷ l) h.2)
 
@@ -122,3 +122,14 @@ left_of o = 1 + 2 * total (map (λ (b : Bor Node). nodes_of b.now) (drop o.behin
 
 abbrev pub left_in : List Open → ℕ
 left_in way = total (map left_of way)
+
+total_on : (xs : List Open) (y : Open) → left_in (xs ++ y ∷ []) ≡ left_in xs + left_of y
+total_on [] y = omega arith
+total_on (x ∷ xs) y = let h = total_on xs y in omega (arith, h)
+
+-- one that was taken is gone
+pub fewer : (above way : List Open) (o : Open) → way ≡ above ++ o ∷ [] → left_in above < left_in way
+fewer above way o e = let a = ap left_in e in let b = total_on above o in omega (arith, a, b)
+
+nodes_in : List (Bor Node) → ℕ
+nodes_in xs = total (map (λ (b : Bor Node). nodes_of b.now) xs)
