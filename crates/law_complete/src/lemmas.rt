@@ -1,4 +1,4 @@
-ghost use Rattle.std.specs.Prelude.{◌≡◌, if◌then◌else◌, IfOk, MatchOption};
+ghost use Rattle.std.specs.Prelude.{◌≡◌, if◌then◌else◌, IfOk, OnOk, MatchOption};
 ghost use Rattle.law_sig.specs.declared.parts.SigParts.{SigParts};
 ghost use Rattle.law_rewriting.specs.Completion.{tidied, lemma};
 ghost use Rattle.law_bank.specs.declared.node.Node.{out-Node};
@@ -159,7 +159,7 @@ pub fn lemma<'a>(
     ensures founded { IfOk result (λ o. MatchOption o (Unit {0}) (IsFounded (equations_in log.now))) }
     ensures held { IfOk result (λ o. MatchOption o (Unit {0}) (λ k. IsEqnOf bank.new (eqn_of k))) }
     ensures light { IfOk result (λ o. MatchOption o (Unit {0}) (λ k. AreLight (eqn_of k))) }
-    ensures known { AreNormal bank.new index.now known.new.keys }
+    ensures known { OnOk result (AreNormal bank.new index.now known.new.keys) }
     ensures grows { Grows bank.old bank.new }
 {
     let (left, to_left) = normal_knowing(bank, log, index, known, pair.left)?;

@@ -126,7 +126,7 @@ impl<'a> Completion<'a> {
     ) -> Result<(), NoMemory>
         requires completion { IsCompletionOf bank.old self.old }
         requires known { AreNormal bank.old (entries_in self.old.log) known.old.keys }
-        ensures known { AreNormal bank.new (entries_in self.new.log) known.new.keys }
+        ensures known { OnOk result (AreNormal bank.new (entries_in self.new.log) known.new.keys) }
         ensures took { OnOk result ((parts : SigParts) → IsSignatureOf parts bank.old → IsFound parts self.old true → Takes parts (state_of self.old) (state_of self.new)) }
         ensures err { OnErr result (self.new ≡ self.old) }
         ensures held { IsCompletionOf bank.new self.new }
@@ -160,7 +160,7 @@ impl<'a> Completion<'a> {
     ) -> Result<bool, NoMemory>
         requires completion { IsCompletionOf bank.old self.old }
         requires known { AreNormal bank.old (entries_in self.old.log) known.old.keys }
-        ensures known { AreNormal bank.new (entries_in self.new.log) known.new.keys }
+        ensures known { OnOk result (AreNormal bank.new (entries_in self.new.log) known.new.keys) }
         ensures took { IfOk result (λ went. (parts : SigParts) → IsSignatureOf parts bank.old → TookNext parts (state_of self.old) (state_of self.new) went) }
         ensures err { OnErr result (state_of self.new ≡ state_of self.old) }
         ensures held { IsCompletionOf bank.new self.new }

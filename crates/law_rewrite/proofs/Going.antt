@@ -1,21 +1,38 @@
 -- While a step is searched: the way from the root to the term that is looked at next.
-use Rattle.std.proofs.Common.{◌≡◌, ℕ, zero, suc, ◌+◌, ◌*◌, ◌-◌, ◌<◌, ◌≤◌, ◌⊎◌, inl, inr, List, [], ◌∷◌, ◌++◌, length, take, drop, map, Option, Some, None, MatchOption, slice_get, append_assoc, sym, refl, ap, ◌∙◌, subst, arith}
+use Rattle.std.proofs.Common.{◌≡◌, ℕ, zero, suc, ◌+◌, ◌*◌, ◌-◌, ◌<◌, ◌≤◌, ◌⊎◌, inl, inr, List, [], ◌∷◌, ◌++◌, length, take, drop, map, Option, Some, None, slice_get, Bool, true, false, ◌==◌, if◌then◌else◌, append_assoc, sym, refl, ap, ◌∙◌, subst, arith}
+use Rattle.std.specs.List.{list_any}
 use denote.Bor.{Bor}
 use Rattle.law_sig.specs.Lists.{In, Each, total}
+use Rattle.law_sig.specs.Lists.In.{here, there}
 use Rattle.law_sig.specs.Trees.{node_count}
 use Rattle.law_sig.specs.declared.tree.Tree.{Tree}
 use Rattle.law_sig.specs.declared.parts.SigParts.{SigParts}
 use Rattle.law_rewriting.specs.Steps.{IsNormal}
 use Rattle.law_rewriting.specs.Roots.{HasNoRootStep}
+use Rattle.law_laws.proofs.TreeFacts.{nodes-Var, nodes-App}
+use Rattle.law_laws.proofs.ListFacts.{in_left, in_right}
+use Rattle.law_bank.specs.declared.node.Head.{Head}
+use Rattle.law_bank.specs.declared.node.Head.TheVariants as head
 use Rattle.law_bank.specs.declared.node.Node.{Node, out-Node}
-use Rattle.law_bank.specs.Terms.{tree_of, id_of}
+use Rattle.law_bank.specs.Terms.{tree_of, trees_of, id_of, Fits}
 use Rattle.law_bank.specs.Bank.{Terms, IsOf, AllOf, Grows}
-use Rattle.law_bank.proofs.BankFacts.{stays}
-use Rattle.law_index.specs.Index.{Entry, rules_in}
+use Rattle.law_bank.proofs.BankFacts as bank_facts
+use Rattle.law_bank.proofs.BankFacts.{stays, below, var_tree, sym_tree, get_left}
+use Rattle.law_index.specs.Index.{Entry, AllRules, rules_in}
 use Rattle.law_rewrite.specs.declared.search.Open.{Open}
 use Rattle.law_rewrite.specs.Rewriting.{IsSignatureOf}
-use Rattle.law_rewrite.specs.Finding.{IsKnown, AreNormal, IsAmong, IsUnknownAt, GoesDown}
-use Rattle.law_rewrite.proofs.Ways.{args_of, IsTurn, WayTo, way_on, way_back, way_more, more_known, all_before}
+use Rattle.law_rewrite.specs.Finding.{IsKnown, AreNormal, IsAmong, IsUnknownAt, IsUnknown, GoesDown}
+use Rattle.law_rewrite.proofs.Knowing.{any_is}
+use Rattle.law_rewrite.proofs.Signatures.{arg_light, signature_was}
+use Rattle.law_rewrite.proofs.Ways.{args_of, IsTurn, WayTo, way_on, way_back, way_more, more_known, all_before, item_of}
+
+-- all terms on the way are of the bank, and light
+pub record IsHeld (bank : Terms) (o : Open) : Type 0 where
+  pub of_bank : IsOf bank o.term.now
+  pub light : (out-Node o.term.now).weight ≤ 65536
+
+abbrev pub AllOpen : Terms → List Open → Type 0
+AllOpen bank way = Each (IsHeld bank) way
 
 -- a term is at work: so many of its first arguments are known, and a way leads to it
 pub record IsAtWork (ids : List ℕ) (top : Node) (way : List Open) : Type 0 where
@@ -131,5 +148,145 @@ total_on (x ∷ xs) y = let h = total_on xs y in omega (arith, h)
 pub fewer : (above way : List Open) (o : Open) → way ≡ above ++ o ∷ [] → left_in above < left_in way
 fewer above way o e = let a = ap left_in e in let b = total_on above o in omega (arith, a, b)
 
-nodes_in : List (Bor Node) → ℕ
+abbrev pub nodes_in : List (Bor Node) → ℕ
 nodes_in xs = total (map (λ (b : Bor Node). nodes_of b.now) xs)
+
+nodes_trees : (xs : List (Bor Node)) → total (map node_count (trees_of xs)) ≡ nodes_in xs
+nodes_trees [] = refl
+nodes_trees (x ∷ xs) = ap (λ n. nodes_of x.now + n) (nodes_trees xs)
+
+nodes_are : (bank : Terms) (n : Node) → IsOf bank n → nodes_of n ≡ 1 + nodes_in (args_of n)
+nodes_are bank n of = by (out-Node n).head refl (bank_facts.here bank n of).fits
+  where
+    by : (h : Head) → (out-Node n).head ≡ h → Fits h (args_of n) → nodes_of n ≡ 1 + nodes_in (args_of n)
+    by (head.Var s i) e f = ap node_count (var_tree n s i e) ∙ nodes-Var s i ∙ ap (λ xs. 1 + nodes_in xs) (sym f)
+    by (head.Sym g) e f = ap node_count (sym_tree n g e) ∙ nodes-App g (trees_of (args_of n)) ∙ ap (λ k. 1 + k) (nodes_trees (args_of n))
+
+dropped : (xs : List (Bor Node)) (at : ℕ) (x : Bor Node) → slice_get xs at ≡ Some x → nodes_in (drop at xs) ≡ nodes_of x.now + nodes_in (drop (suc at) xs)
+dropped [] at x e = cc
+dropped (y ∷ ys) zero x e = let same : y ≡ x = cc in ap (λ (z : Bor Node). nodes_of z.now + nodes_in ys) same
+dropped (y ∷ ys) (suc at) x e = dropped ys at x e
+
+fewer_left : (xs : List (Bor Node)) (behind at : ℕ) → behind ≤ at → nodes_in (drop at xs) ≤ nodes_in (drop behind xs)
+fewer_left [] zero zero l = omega arith
+fewer_left [] zero (suc at) l = omega arith
+fewer_left [] (suc behind) zero l = omega arith
+fewer_left [] (suc behind) (suc at) l = omega arith
+fewer_left (x ∷ xs) zero zero l = omega arith
+fewer_left (x ∷ xs) zero (suc at) l = let h : nodes_in (drop at xs) ≤ nodes_in xs = fewer_left xs zero at (omega arith) in omega (arith, h)
+fewer_left (x ∷ xs) (suc behind) zero l = absurd (omega (arith, l))
+fewer_left (x ∷ xs) (suc behind) (suc at) l = fewer_left xs behind at (omega (arith, l))
+
+-- one that goes on to an argument leaves fewer
+pub fewer_down : (bank : Terms) (ids : List ℕ) (above way new : List Open) (o : Open) (at : ℕ) → IsOf bank o.term.now → way ≡ above ++ o ∷ [] → IsUnknownAt ids (args_of o.term.now) o.behind at
+    → GoesDown o.term at above new → left_in new < left_in way
+fewer_down bank ids above way new o at of e u d =
+    let one : Open = record { term = o.term; behind = suc at } in
+    let two : Open = record { term = d.arg; behind = 0 } in
+    let was = ap left_in e in
+    let before = total_on above o in
+    let is = ap left_in d.is in
+    let a = ap left_in (sym (append_assoc above (one ∷ []) (two ∷ []))) in
+    let b = total_on (above ++ one ∷ []) two in
+    let f = total_on above one in
+    let g = dropped (args_of o.term.now) at d.arg d.there in
+    let h = fewer_left (args_of o.term.now) o.behind at u.from in
+    let k = nodes_are bank d.arg.now (item_of bank (args_of o.term.now) at d.arg (below bank o.term.now of) d.there) in
+    omega (arith, was, before, is, a, b, f, g, h, k)
+
+-- What the loop's answers ask for
+
+pub begun : (ids : List ℕ) (t : Bor Node) (none way : List Open) → none ≡ [] → way ≡ none ++ record { term = t; behind = 0 } ∷ [] → Goes ids t.now way
+begun ids t none way e f = subst (Goes ids t.now) (sym (f ∙ ap (λ l. l ++ record { term = t; behind = 0 } ∷ []) e)) (begins ids t)
+
+pub begun_held : (bank : Terms) (t : Bor Node) (none way : List Open) → IsOf bank t.now → (out-Node t.now).weight ≤ 65536 → none ≡ [] → way ≡ none ++ record { term = t; behind = 0 } ∷ [] → AllOpen bank way
+begun_held bank t none way of l e f = subst (AllOpen bank) (sym (f ∙ ap (λ l. l ++ record { term = t; behind = 0 } ∷ []) e)) (record { of_bank = of; light = l }, tt)
+
+pub unknown_is : (ids : List ℕ) (args : List (Bor Node)) (behind : ℕ) (o : Option ℕ) (at : ℕ) → IsUnknown ids args behind o → o ≡ Some at → IsUnknownAt ids args behind at
+unknown_is ids args behind o at u e = subst (IsUnknown ids args behind) e u
+
+pub all_are : (ids : List ℕ) (args : List (Bor Node)) (behind : ℕ) (o : Option ℕ) → IsUnknown ids args behind o → o ≡ None → (n : ℕ) (a : Bor Node) → behind ≤ n → slice_get args n ≡ Some a → IsAmong ids a
+all_are ids args behind o u e = subst (IsUnknown ids args behind) e u
+
+pub within : {A : Type 0} (xs : List A) (n : ℕ) (x : A) → slice_get xs n ≡ Some x → n < length xs
+within [] n x e = cc
+within (y ∷ ys) zero x e = omega arith
+within (y ∷ ys) (suc n) x e = let h = within ys n x e in omega (arith, h)
+
+held_left : (bank : Terms) (xs : List Open) (o : Open) → AllOpen bank (xs ++ o ∷ []) → AllOpen bank xs
+held_left bank [] o h = tt
+held_left bank (x ∷ xs) o h = (h.0, held_left bank xs o h.1)
+
+held_right : (bank : Terms) (xs : List Open) (o : Open) → AllOpen bank (xs ++ o ∷ []) → IsHeld bank o
+held_right bank [] o h = h.0
+held_right bank (x ∷ xs) o h = held_right bank xs o h.1
+
+held_more : (bank : Terms) (xs : List Open) (a b : Open) → AllOpen bank xs → IsHeld bank a → IsHeld bank b → AllOpen bank (xs ++ a ∷ b ∷ [])
+held_more bank [] a b h f g = (f, (g, tt))
+held_more bank (x ∷ xs) a b h f g = (h.0, held_more bank xs a b h.1 f g)
+
+pub top_held : (bank : Terms) (above way : List Open) (o : Open) → AllOpen bank way → way ≡ above ++ o ∷ [] → IsHeld bank o
+top_held bank above way o h e = held_right bank above o (subst (AllOpen bank) e h)
+
+pub rest_held : (bank : Terms) (above way : List Open) (o : Open) → AllOpen bank way → way ≡ above ++ o ∷ [] → AllOpen bank above
+rest_held bank above way o h e = held_left bank above o (subst (AllOpen bank) e h)
+
+get_in : {A : Type 0} (xs : List A) (at : ℕ) (x : A) → slice_get xs at ≡ Some x → In x xs
+get_in [] at x e = cc
+get_in (y ∷ xs) zero x e = let same : y ≡ x = cc in subst (λ z. In z (y ∷ xs)) same here
+get_in (y ∷ xs) (suc at) x e = there (get_in xs at x e)
+
+pub down_held : (bank : Terms) (above way new : List Open) (o : Open) (at : ℕ) → AllOpen bank way → way ≡ above ++ o ∷ [] → GoesDown o.term at above new → AllOpen bank new
+down_held bank above way new o at h e d =
+    let t = top_held bank above way o h e in
+    let of = item_of bank (args_of o.term.now) at d.arg (below bank o.term.now t.of_bank) d.there in
+    subst (AllOpen bank) (sym d.is) (held_more bank above (record { term = o.term; behind = suc at }) (record { term = d.arg; behind = 0 }) (rest_held bank above way o h e)
+    (record { of_bank = t.of_bank; light = t.light })
+    (record { of_bank = of; light = arg_light bank o.term.now d.arg t.of_bank of (get_in (args_of o.term.now) at d.arg d.there) t.light }))
+
+-- What stays as the bank grows
+
+pub rules_stay : (old new : Terms) (es : List Entry) → Grows old new → AllRules old es → AllRules new es
+rules_stay old new [] g h = tt
+rules_stay old new (e ∷ es) g h = (record { left = stays old new e.1.left.now g h.0.left; right = stays old new e.1.right.now g h.0.right }, rules_stay old new es g h.1)
+
+pub normal_stays : (old new : Terms) (es : List Entry) (ids : List ℕ) → Grows old new → AreNormal old es ids → AreNormal new es ids
+normal_stays old new es [] g h = tt
+normal_stays old new es (i ∷ ids) g h =
+    let more = g.0 in
+    (record {
+      tree = h.0.tree;
+      named = ap (λ (b : Terms). slice_get b.trees i) g.1 ∙ get_left old.trees more i h.0.tree h.0.named;
+      normal = λ parts s. h.0.normal parts (signature_was old new g parts s);
+    },
+    normal_stays old new es ids g h.1)
+
+-- A term is noted
+
+abbrev pub with_id : List ℕ → ℕ → List ℕ
+with_id ids id = if list_any (λ m. id == m) ids then ids else ids ++ id ∷ []
+
+pub id_stays : (ids : List ℕ) (id i : ℕ) → In i ids → In i (with_id ids id)
+id_stays ids id i at = by (list_any (λ m. id == m) ids)
+  where
+    by : (b : Bool) → In i (if b then ids else ids ++ id ∷ [])
+    by true = at
+    by false = in_left (id ∷ []) at
+
+pub id_is_in : (ids : List ℕ) (id : ℕ) → In id (with_id ids id)
+id_is_in ids id = by (list_any (λ m. id == m) ids) refl
+  where
+    by : (b : Bool) → list_any (λ m. id == m) ids ≡ b → In id (if b then ids else ids ++ id ∷ [])
+    by true e = any_is id ids e
+    by false e = in_right ids here
+
+each_join : {A : Type 0} (P : A → Type 0) (xs ys : List A) → Each P xs → Each P ys → Each P (xs ++ ys)
+each_join P [] ys h k = k
+each_join P (x ∷ xs) ys h k = (h.0, each_join P xs ys h.1 k)
+
+pub all_with : (bank : Terms) (es : List Entry) (ids : List ℕ) (id : ℕ) → AreNormal bank es ids → IsKnown bank es id → AreNormal bank es (with_id ids id)
+all_with bank es ids id h k = by (list_any (λ m. id == m) ids)
+  where
+    by : (b : Bool) → AreNormal bank es (if b then ids else ids ++ id ∷ [])
+    by true = h
+    by false = each_join (IsKnown bank es) ids (id ∷ []) h (k, tt)

@@ -1,3 +1,4 @@
 pub mod Ways
 pub mod Knowing
 pub mod Going
+pub mod Signatures

@@ -1,4 +1,4 @@
-ghost use Rattle.std.specs.Prelude.{◌≡◌, ◌≤◌, IfOk};
+ghost use Rattle.std.specs.Prelude.{◌≡◌, ◌≤◌, IfOk, OnOk};
 ghost use Rattle.law_sig.specs.declared.parts.SigParts.{SigParts};
 ghost use Rattle.law_rewriting.specs.HeadChains.{ReplaysWith, HasItsHead};
 ghost use Rattle.law_rewriting.specs.Steps.{IsNf};
@@ -42,7 +42,7 @@ pub fn normal_knowing<'a>(
     ensures from { IfOk result (λ r. r.1.from ≡ term.entry) }
     ensures to { IfOk result (λ r. r.1.to ≡ r.0) }
     ensures held { IfOk result (λ r. IsChainOf bank.new r.1) }
-    ensures known { AreNormal bank.new index.now known.new.keys }
+    ensures known { OnOk result (AreNormal bank.new index.now known.new.keys) }
     ensures grows { Grows bank.old bank.new }
 {
     let mut steps = Seq::new(bank.alloc());

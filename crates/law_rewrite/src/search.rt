@@ -91,7 +91,7 @@ pub fn find<'a>(
     ensures found { IfOk result (λ o. (parts : SigParts) → IsSignatureOf parts bank.old → MatchOption o (IsNormal parts (rules_in index.now) (tree_of term.now)) (IsFoundAt parts (rules_in index.now) (tree_of term.now))) }
     ensures held { IfOk result (λ o. MatchOption o (Unit {0}) (λ f. AllBound bank.new f.hit.subst)) }
     ensures rising { IfOk result (λ o. MatchOption o (Unit {0}) (λ f. AreRising f.hit.subst)) }
-    ensures known { AreNormal bank.new index.now known.new.keys }
+    ensures known { OnOk result (AreNormal bank.new index.now known.new.keys) }
     ensures grows { Grows bank.old bank.new }
 {
     let mut way = Vec::new(bank.alloc());

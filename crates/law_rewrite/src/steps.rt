@@ -1,4 +1,4 @@
-ghost use Rattle.std.specs.Prelude.{◌≡◌, ◌≤◌, IfOk, MatchOption};
+ghost use Rattle.std.specs.Prelude.{◌≡◌, ◌≤◌, IfOk, OnOk, MatchOption};
 ghost use Rattle.law_sig.specs.declared.parts.SigParts.{SigParts};
 ghost use Rattle.law_rewriting.specs.Steps.{IsNormal, IsOrderedStep};
 ghost use Rattle.law_bank.specs.declared.node.Node.{out-Node};
@@ -42,7 +42,7 @@ pub fn step<'a>(
         (λ t. IsOrderedStep parts (rules_in index.now) (step_of t.step) (tree_of term.now) (tree_of t.term.now))) }
     ensures held { IfOk result (λ o. MatchOption o (Unit {0}) (λ t. IsOf bank.new t.term.now × AllBound bank.new t.step.subst)) }
     ensures light { IfOk result (λ o. MatchOption o (Unit {0}) (λ t. (out-Node t.term.now).weight ≤ 65536)) }
-    ensures known { AreNormal bank.new index.now known.new.keys }
+    ensures known { OnOk result (AreNormal bank.new index.now known.new.keys) }
     ensures grows { Grows bank.old bank.new }
 {
     let Some(found) = find(bank, index, known, term)? else {
