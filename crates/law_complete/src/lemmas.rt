@@ -1,4 +1,5 @@
-ghost use Rattle.std.specs.Prelude.{◌≡◌, if◌then◌else◌, IfOk, OnOk, MatchOption};
+ghost use Rattle.std.specs.Prelude.{◌≡◌, IfOk, OnOk, MatchOption};
+ghost use Rattle.std.specs.Bool.{MatchBool};
 ghost use Rattle.law_sig.specs.declared.parts.SigParts.{SigParts};
 ghost use Rattle.law_rewriting.specs.Completion.{tidied, lemma};
 ghost use Rattle.law_bank.specs.declared.node.Node.{out-Node};
@@ -113,7 +114,7 @@ fn proved<'a>(
     requires left { IsOf bank.old left.now }
     requires right { IsOf bank.old right.now }
     requires steps { AllStepsOf bank.old steps.now }
-    requires leads { if is_back then Lead bank.old log.now (steps_of steps.now) (tree_of right.now) (tree_of left.now) else Lead bank.old log.now (steps_of steps.now) (tree_of left.now) (tree_of right.now) }
+    requires leads { MatchBool is_back (Lead bank.old log.now (steps_of steps.now) (tree_of right.now) (tree_of left.now)) (Lead bank.old log.now (steps_of steps.now) (tree_of left.now) (tree_of right.now)) }
     ensures is { IfOk result (λ k. kept_of k ≡ lemma (tidied (tree_of left.now) (tree_of right.now))) }
     ensures founded { IfOk result (IsFounded (equations_in log.now)) }
     ensures held { IfOk result (λ k. IsEqnOf bank.new (eqn_of k)) }

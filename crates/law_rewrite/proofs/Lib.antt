@@ -1,4 +1,5 @@
 pub mod Ways
 pub mod Knowing
-pub mod Going
 pub mod Signatures
+pub mod Going
+pub mod Found
