@@ -3,3 +3,4 @@ pub mod Knowing
 pub mod Signatures
 pub mod Going
 pub mod Found
+pub mod Stepping
