@@ -4,3 +4,4 @@ pub mod Signatures
 pub mod Going
 pub mod Found
 pub mod Stepping
+pub mod Chaining

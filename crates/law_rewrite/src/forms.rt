@@ -13,7 +13,7 @@ ghost use Rattle.law_rewrite.specs.Finding.{AreNormal};
 use super::steps::step;
 use indexmap::IndexSet;
 use law_index::RuleIndex;
-use law_proof::{Chain, ProofLog};
+use law_proof::{Chain, ProofLog, Step};
 use law_sig::{NoMemory, Seq};
 use law_term::{Term, TermBank};
 
@@ -21,6 +21,14 @@ use law_term::{Term, TermBank};
 #[derive(Clone, Copy)]
 struct Reached<'a> {
     term: Term<'a>,
+}
+
+/// The last term of a chain, with the chain.
+fn ended<'a>(from: Term<'a>, steps: Seq<Step<'a>>, to: Term<'a>) -> (Term<'a>, Chain<'a>)
+    ensures end { result.0 ≡ to.entry }
+    ensures chain { result.1 ≡ record { from = from.entry; steps = steps.entry; to = to.entry } }
+{
+    (to, Chain { from, steps, to })
 }
 
 /// The normal form of a term, as `normal` gives it. Terms that are known to be normal by the index aren't looked at again, and those
@@ -47,19 +55,14 @@ pub fn normal_knowing<'a>(
 {
     let mut steps = Seq::new(bank.alloc());
     let mut here = Reached { term };
-    for _ in 0..200 {
+    for _ in 0..200u32 {
         let Some(taken) = step(bank, log, index, known, here.term)? else {
-            break;
+            return Ok(ended(term, steps, here.term));
         };
         steps.push(taken.step)?;
         here = Reached { term: taken.term };
     }
-    let chain = Chain {
-        from: term,
-        steps,
-        to: here.term,
-    };
-    Ok((here.term, chain))
+    Ok(ended(term, steps, here.term))
 }
 
 /// The normal form of a term by the equations of an index, with the chain of steps that lead to it: each is taken at the leftmost
