@@ -281,7 +281,12 @@ const HALTS: &[Calls] = &[
 
 const LEARNT: &[Calls] = &[
     ("f (f M.0)", "g M.0", &[0, 100], "spent 0; saturated; "),
-    ("f (f M.0)", "g M.0", &[1, 1, 0, 1, 1, 1], "spent 1; spent 1; spent 0; spent 1; saturated; saturated; "),
+    (
+        "f (f M.0)",
+        "g M.0",
+        &[1, 1, 0, 1, 1, 1],
+        "spent 1; spent 1; spent 0; spent 1; saturated; saturated; ",
+    ),
 ];
 
 fn halts_are(alloc: Global, rows: &[Calls], then: &str) -> bool {
@@ -336,8 +341,10 @@ fn large(alloc: Global, depth: u32, calls: &[u32]) -> Result<Text, NoMemory> {
 }
 
 fn large_are(alloc: Global) -> bool {
-    let (Ok(small), Ok(great)) = (large(alloc, 32, &[100]), large(alloc, 40, &[24, 1, 14, 2, 0]))
-    else {
+    let (Ok(small), Ok(great)) = (
+        large(alloc, 32, &[100]),
+        large(alloc, 40, &[24, 1, 14, 2, 0]),
+    ) else {
         return false;
     };
     small.as_slice() == "saturated; ".as_bytes()

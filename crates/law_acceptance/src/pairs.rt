@@ -97,10 +97,7 @@ const PAIRS: &[Row] = &[
          1 rl 1 lr -: and B.0 B.1, and B.1 B.0, and B.1 B.0; 1 rl 1 rl -: and B.0 B.1, and B.1 B.0, and B.1 B.0; ",
     ),
     // a step that grows makes no pair
-    (
-        &[("f M.0", "g M.0")],
-        "1 rl 1 rl -: g M.0, f M.0, f M.0; ",
-    ),
+    (&[("f M.0", "g M.0")], "1 rl 1 rl -: g M.0, f M.0, f M.0; "),
     // neither falls: each variable of its own, those of the peak first, then the left's, then the right's
     (
         &[("f M.7", "g M.3")],
@@ -138,8 +135,10 @@ const PAIRS: &[Row] = &[
          1 lr 1 lr 1: k (k B.0 (k B.1 B.2)) (k (k B.1 B.2) (k B.2 B.3)), k (k B.0 (k B.1 B.2)) B.2, k B.1 B.2; ",
     ),
     // a variable that stands for a term with it
-    (&[("k B.0 (not B.0)", "F"), ("k B.0 B.0", "T")],
-        "1 lr 1 lr -: k B.0 (not B.0), F, F; 2 lr 2 lr -: k B.0 B.0, T, T; "),
+    (
+        &[("k B.0 (not B.0)", "F"), ("k B.0 B.0", "T")],
+        "1 lr 1 lr -: k B.0 (not B.0), F, F; 2 lr 2 lr -: k B.0 B.0, T, T; ",
+    ),
 ];
 
 fn pairs_are(alloc: Global, rows: &[Row]) -> bool {

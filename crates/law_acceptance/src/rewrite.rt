@@ -33,7 +33,10 @@ fn form(
     put_term(alloc, sig, &bank, &mut out, end)?;
     out.push_slice("; ".as_bytes())?;
     put_chain(alloc, sig, &mut bank, &mut out, &chain)?;
-    Ok((out, leads && end.id == chain.to.id && start.id == chain.from.id))
+    Ok((
+        out,
+        leads && end.id == chain.to.id && start.id == chain.from.id,
+    ))
 }
 
 type Row = (
@@ -124,11 +127,7 @@ const FORMS: &[Row] = &[
     (&[("f M.0", "g M.0")], "g P", "f P; - 1 rl M.0 P; "),
     // weights and not nodes: w weighs 3
     (&[("f (g M.0)", "w M.0")], "f (g P)", "f (g P); "),
-    (
-        &[("f (g M.0)", "w M.0")],
-        "w P",
-        "f (g P); - 1 rl M.0 P; ",
-    ),
+    (&[("f (g M.0)", "w M.0")], "w P", "f (g P); - 1 rl M.0 P; "),
     (
         &[("w M.0", "f (f (f (f M.0)))")],
         "f (f (f (f (f P))))",
@@ -176,11 +175,7 @@ fn cut(alloc: Global, depth: u32) -> Result<(bool, bool, usize), NoMemory> {
 }
 
 /// So many symbols `f` over a term.
-fn deep<'a>(
-    bank: &mut TermBank<'a>,
-    term: Term<'a>,
-    depth: u32,
-) -> Result<Term<'a>, NoMemory> {
+fn deep<'a>(bank: &mut TermBank<'a>, term: Term<'a>, depth: u32) -> Result<Term<'a>, NoMemory> {
     if depth == 0 {
         return Ok(term);
     }

@@ -81,7 +81,11 @@ fn weights(alloc: Global, sig: &Sig) -> Result<Seq<u32>, NoMemory> {
 }
 
 /// A bank without terms.
-pub fn bank<'a>(alloc: Global, arena: &'a Bump<Global>, sig: &Sig) -> Result<TermBank<'a>, NoMemory> {
+pub fn bank<'a>(
+    alloc: Global,
+    arena: &'a Bump<Global>,
+    sig: &Sig,
+) -> Result<TermBank<'a>, NoMemory> {
     let sorts = sorts(alloc, sig)?;
     let weights = weights(alloc, sig)?;
     Ok(TermBank::new(alloc, arena, sorts, weights))
@@ -346,13 +350,7 @@ fn terms_at_places(rt: HostRuntime) {
 
 /// A term with another one put for a variable of the second sort, and a third for one of the first.
 #[tactic(auto, using(law_bank::proofs::BankFacts::stays))]
-fn put(
-    alloc: Global,
-    sig: &Sig,
-    tree: &Tree,
-    index: u32,
-    new: &Tree,
-) -> Result<Tree, NoMemory> {
+fn put(alloc: Global, sig: &Sig, tree: &Tree, index: u32, new: &Tree) -> Result<Tree, NoMemory> {
     let arena = Bump::new(alloc);
     let mut bank = bank(alloc, &arena, sig)?;
     let term = bank.from_tree(tree)?;
@@ -513,27 +511,85 @@ fn ordered(
     let mut bank = bank(alloc, &arena, sig)?;
     let left = bank.from_tree(a)?;
     let right = bank.from_tree(b)?;
-    Ok((compare_k(left, right), compare(left, right), kbo(left, right)))
+    Ok((
+        compare_k(left, right),
+        compare(left, right),
+        kbo(left, right),
+    ))
 }
 
 type Row = (&'static str, &'static str, Ordering, Ordering, bool);
 
 const ORDERED: &[Row] = &[
-    ("g (f M.0)", "f (g M.0)", Ordering::Greater, Ordering::Greater, true),
-    ("f (g M.0)", "g (f M.0)", Ordering::Less, Ordering::Less, false),
-    ("and B.1 B.0", "and B.0 B.1", Ordering::Greater, Ordering::Greater, false),
-    ("and B.0 B.1", "and B.1 B.0", Ordering::Less, Ordering::Less, false),
+    (
+        "g (f M.0)",
+        "f (g M.0)",
+        Ordering::Greater,
+        Ordering::Greater,
+        true,
+    ),
+    (
+        "f (g M.0)",
+        "g (f M.0)",
+        Ordering::Less,
+        Ordering::Less,
+        false,
+    ),
+    (
+        "and B.1 B.0",
+        "and B.0 B.1",
+        Ordering::Greater,
+        Ordering::Greater,
+        false,
+    ),
+    (
+        "and B.0 B.1",
+        "and B.1 B.0",
+        Ordering::Less,
+        Ordering::Less,
+        false,
+    ),
     ("M.0", "M.0", Ordering::Equal, Ordering::Equal, false),
     // the heavier one, where it has the variables
-    ("w M.0", "f (g M.0)", Ordering::Greater, Ordering::Greater, true),
-    ("w M.0", "f (g M.1)", Ordering::Greater, Ordering::Greater, false),
-    ("k F B.0", "k B.0 B.0", Ordering::Greater, Ordering::Greater, false),
-    ("not (k F B.0)", "k B.0 B.0", Ordering::Greater, Ordering::Greater, false),
+    (
+        "w M.0",
+        "f (g M.0)",
+        Ordering::Greater,
+        Ordering::Greater,
+        true,
+    ),
+    (
+        "w M.0",
+        "f (g M.1)",
+        Ordering::Greater,
+        Ordering::Greater,
+        false,
+    ),
+    (
+        "k F B.0",
+        "k B.0 B.0",
+        Ordering::Greater,
+        Ordering::Greater,
+        false,
+    ),
+    (
+        "not (k F B.0)",
+        "k B.0 B.0",
+        Ordering::Greater,
+        Ordering::Greater,
+        false,
+    ),
     // a variable is less than a symbol, and neither is greater
     ("F", "B.0", Ordering::Greater, Ordering::Greater, false),
     // schemas come first
     ("k B.1 F", "k F B.0", Ordering::Less, Ordering::Less, false),
-    ("h B.0 M.1 (not F)", "h B.1 M.0 (not B.0)", Ordering::Less, Ordering::Greater, false),
+    (
+        "h B.0 M.1 (not F)",
+        "h B.1 M.0 (not B.0)",
+        Ordering::Less,
+        Ordering::Greater,
+        false,
+    ),
 ];
 
 fn ordered_are(alloc: Global) -> bool {

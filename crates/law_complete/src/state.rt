@@ -153,11 +153,7 @@ impl<'a> Completion<'a> {
     }
 
     /// Takes the next pair; false where none is left.
-    fn take(
-        &mut self,
-        bank: &mut TermBank<'a>,
-        known: &mut IndexSet<u64>,
-    ) -> Result<bool, NoMemory>
+    fn take(&mut self, bank: &mut TermBank<'a>, known: &mut IndexSet<u64>) -> Result<bool, NoMemory>
         requires completion { IsCompletionOf bank.old self.old }
         requires known { AreNormal bank.old (entries_in self.old.log) known.old.keys }
         ensures known { OnOk result (AreNormal bank.new (entries_in self.new.log) known.new.keys) }

@@ -9,8 +9,8 @@ mod walk;
 
 ghost use Rattle.law_pairs.specs.Walk.{NewWalksFit, WalksFitOn};
 
-pub use law_proof::{Dir, EqId};
 pub use doubled::both;
+pub use law_proof::{Dir, EqId};
 pub use named::{Pair, PairId};
 pub use walk::PairWalk;
 

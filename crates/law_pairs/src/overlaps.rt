@@ -65,12 +65,7 @@ fn is_big(term: Term<'_>) -> bool
 }
 
 /// Whether neither step from a peak falls in the Knuth-Bendix order; of great terms that isn't asked.
-fn qualifies<'a>(
-    bank: &TermBank<'a>,
-    sides: Sides<'a>,
-    start: Term<'a>,
-    reached: Term<'a>,
-) -> bool
+fn qualifies<'a>(bank: &TermBank<'a>, sides: Sides<'a>, start: Term<'a>, reached: Term<'a>) -> bool
     requires sides { AreOfBank bank.now sides }
     requires start { IsOf bank.now start.now }
     requires reached { IsOf bank.now reached.now }

@@ -10,9 +10,9 @@ ghost use Rattle.law_pairs.specs.Overlapping.{AreAllLight};
 ghost use Rattle.law_pairs.specs.Walk.{Walk, new_walk, Fits, given_after, named, IsPairOf};
 ghost use Rattle.law_pairs.specs.Walking.{LackOne, AreTwo};
 
+use super::named::{Pair, PairId};
 use super::next::after;
 use super::overlaps::overlap;
-use super::named::{Pair, PairId};
 use law_match::directed;
 use law_proof::ProofLog;
 use law_sig::NoMemory;

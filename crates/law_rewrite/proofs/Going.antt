@@ -87,7 +87,12 @@ goes_down ids top above new o at t u d = inr (record {
   last = record { term = d.arg; behind = 0 };
   split = d.is ∙ sym (append_assoc above (record { term = o.term; behind = suc at } ∷ []) (record { term = d.arg; behind = 0 } ∷ []));
   leads = way_on ids top above o.term.now (record { term = o.term; behind = suc at }) d.arg.now t.leads (record {
-    number = at; arg = d.arg; term = refl; behind = refl; there = d.there; is = refl;
+    number = at;
+    arg = d.arg;
+    term = refl;
+    behind = refl;
+    there = d.there;
+    is = refl;
     known = all_before ids (args_of o.term.now) o.behind at t.known u.from u.before;
   });
   known = tt;
@@ -253,13 +258,14 @@ rules_stay old new (e ∷ es) g h = (record { left = stays old new e.1.left.now 
 pub normal_stays : (old new : Terms) (es : List Entry) (ids : List ℕ) → Grows old new → AreNormal old es ids → AreNormal new es ids
 normal_stays old new es [] g h = tt
 normal_stays old new es (i ∷ ids) g h =
-    let more = g.0 in
-    (record {
-      tree = h.0.tree;
-      named = ap (λ (b : Terms). slice_get b.trees i) g.1 ∙ get_left old.trees more i h.0.tree h.0.named;
-      normal = λ parts s. h.0.normal parts (signature_was old new g parts s);
-    },
-    normal_stays old new es ids g h.1)
+    let more = g.0 in (
+      record {
+        tree = h.0.tree;
+        named = ap (λ (b : Terms). slice_get b.trees i) g.1 ∙ get_left old.trees more i h.0.tree h.0.named;
+        normal = λ parts s. h.0.normal parts (signature_was old new g parts s);
+      },
+      normal_stays old new es ids g h.1,
+    )
 
 -- A term is noted
 

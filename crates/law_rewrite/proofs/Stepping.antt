@@ -78,7 +78,7 @@ step_is parts log es h s f g k e q sides a b new whole n r =
     let l = logged log es h f.hit.eq.0 red.equation red.is_rule in
     let same : eqn_of l.kept ≡ q = ap eqn_of (some_is l.kept k (sym l.there ∙ e)) ∙ sym a in
     let put : new ≡ substituted (subst_of f.hit.subst) (end_side f.hit.dir red.equation) = n ∙ ap (λ (z : Eqn). substituted (subst_of f.hit.subst) (tree_of z.right.now)) b
-        ∙ ap (substituted (subst_of f.hit.subst)) (end_is f.hit.dir q ∙ ap (end_side f.hit.dir) (ap equation_of (sym same) ∙ sym l.is)) in
+    ∙ ap (substituted (subst_of f.hit.subst)) (end_is f.hit.dir q ∙ ap (end_side f.hit.dir) (ap equation_of (sym same) ∙ sym l.is)) in
     subst (IsOrderedStep parts (rules_in es) (step_at f) s) (sym (one_result f.pos s put r.rewrites red.applies.rewrites)) g.step
 
 -- a step makes no term heavier

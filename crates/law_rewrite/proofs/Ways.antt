@@ -144,9 +144,11 @@ more_known ids more f (x ∷ xs) ks = (f (id_of x.now) ks.0, more_known ids more
 
 pub way_more : (ids more : List ℕ) → ((i : ℕ) → In i ids → In i more) → (top : Node) (os : List Open) (bottom : Node) → WayTo ids top os bottom → WayTo more top os bottom
 way_more ids more f top [] bottom w = w
-way_more ids more f top (o ∷ os) bottom w = let t = w.1 in
-    (w.0, record { number = t.number; arg = t.arg; term = t.term; behind = t.behind; there = t.there; is = t.is; known = more_known ids more f (take t.number (args_of top)) t.known },
-    way_more ids more f w.0 os bottom w.2)
+way_more ids more f top (o ∷ os) bottom w = let t = w.1 in (
+  w.0,
+  record { number = t.number; arg = t.arg; term = t.term; behind = t.behind; there = t.there; is = t.is; known = more_known ids more f (take t.number (args_of top)) t.known },
+  way_more ids more f w.0 os bottom w.2,
+)
 
 pub item_of : (bank : Terms) (xs : List (Bor Node)) (i : ℕ) (x : Bor Node) → AllOf bank xs → slice_get xs i ≡ Some x → IsOf bank x.now
 item_of bank [] i x ofs e = cc
@@ -181,10 +183,11 @@ module _ (bank : Terms) (es : List Entry) (ids : List ℕ) (known : AreNormal ba
       let s : IsOrderedStep parts (rules_in es) (placed_below (numbers_of os) step) (tree_of w.1.arg.now) r.0 = subst (λ n. IsOrderedStep parts (rules_in es) (placed_below (numbers_of os) step) (tree_of n) r.0) (sym w.1.is) r.1 in
       let up = ordered_in_argument parts (rules_in es) f.symbol (trees_of before) (trees_of a.after) (tree_of w.1.arg.now) r.0 (placed_below (numbers_of os) step) normal s in
       let tree : tree_of top ≡ App f.symbol (trees_of before ++ tree_of w.1.arg.now ∷ trees_of a.after) = sym_tree top f.symbol f.is ∙ ap (λ l. App f.symbol (trees_of l)) a.is ∙ ap (App f.symbol) (trees_both before (w.1.arg ∷ a.after)) in
-      let number : length (trees_of before) ≡ number_of o = trees_long before ∙ a.long ∙ sym (less_one w.1.number o.behind w.1.behind) in
-      (App f.symbol (trees_of before ++ r.0 ∷ trees_of a.after),
-      subst (λ n. IsOrderedStep parts (rules_in es) (placed_below (n ∷ numbers_of os) step) (tree_of top) (App f.symbol (trees_of before ++ r.0 ∷ trees_of a.after))) number
-      (subst (λ z. IsOrderedStep parts (rules_in es) (in_argument (length (trees_of before)) (placed_below (numbers_of os) step)) z (App f.symbol (trees_of before ++ r.0 ∷ trees_of a.after))) (sym tree) up))
+      let number : length (trees_of before) ≡ number_of o = trees_long before ∙ a.long ∙ sym (less_one w.1.number o.behind w.1.behind) in (
+        App f.symbol (trees_of before ++ r.0 ∷ trees_of a.after),
+        subst (λ n. IsOrderedStep parts (rules_in es) (placed_below (n ∷ numbers_of os) step) (tree_of top) (App f.symbol (trees_of before ++ r.0 ∷ trees_of a.after))) number
+            (subst (λ z. IsOrderedStep parts (rules_in es) (in_argument (length (trees_of before)) (placed_below (numbers_of os) step)) z (App f.symbol (trees_of before ++ r.0 ∷ trees_of a.after))) (sym tree) up),
+      )
 
 -- Going down
 

@@ -5,5 +5,5 @@ mod forms;
 mod search;
 mod steps;
 
-pub use law_proof::{Chain, Step};
 pub use forms::{normal, normal_knowing};
+pub use law_proof::{Chain, Step};

@@ -75,10 +75,10 @@ loop-here-preserved c = record {
       (all_with c.first_match.new.bank c.args.index.now c.loop-here.known.keys (id_of c.in-Some.here.term.now)
       (normal_stays c.loop-here.bank c.first_match.new.bank c.args.index.now c.loop-here.known.keys c.in_ok-hit.ensures.grows c.loop-here.invariant.known)
       (is_known c.loop-here.bank c.args.index.now c.loop-here.known.keys c.loop-here.invariant.known c.args.term.now
-    (stays c.args.bank.now c.loop-here.bank c.args.term.now c.loop-here.invariant.grows c.requires.term) c.pop.new.self.items c.in-Some.here
-    (taken c.loop-here.known.keys c.args.term.now c.loop-here.way.items c.pop.new.self.items c.in-Some.here c.loop-here.invariant.goes c.in-Some.ensures.items)
-    (all_known c.loop-here.known.keys (out-Node c.in-Some.here.term.now).args.now c.in-Some.here.behind (taken c.loop-here.known.keys c.args.term.now c.loop-here.way.items c.pop.new.self.items c.in-Some.here c.loop-here.invariant.goes c.in-Some.ensures.items).known
-    (all_are c.loop-here.known.keys (out-Node c.in-Some.here.term.now).args.now c.in-Some.here.behind c.unknown.result c.unknown.ensures c.in_default-unknown.is))
+      (stays c.args.bank.now c.loop-here.bank c.args.term.now c.loop-here.invariant.grows c.requires.term) c.pop.new.self.items c.in-Some.here
+      (taken c.loop-here.known.keys c.args.term.now c.loop-here.way.items c.pop.new.self.items c.in-Some.here c.loop-here.invariant.goes c.in-Some.ensures.items)
+      (all_known c.loop-here.known.keys (out-Node c.in-Some.here.term.now).args.now c.in-Some.here.behind (taken c.loop-here.known.keys c.args.term.now c.loop-here.way.items c.pop.new.self.items c.in-Some.here c.loop-here.invariant.goes c.in-Some.ensures.items).known
+      (all_are c.loop-here.known.keys (out-Node c.in-Some.here.term.now).args.now c.in-Some.here.behind c.unknown.result c.unknown.ensures c.in_default-unknown.is))
       c.first_match.new.bank c.in_ok-hit.ensures.grows (λ parts sig.
       of_none (HasNoRootStep parts (rules_in c.args.index.now) (tree_of c.in-Some.here.term.now)) (IsHit parts (rules_in c.args.index.now) (tree_of c.in-Some.here.term.now)) c.in_ok-hit.field-0
       (c.in_ok-hit.ensures.found parts (bank_of parts c.loop-here.bank sig (tree_of c.in-Some.here.term.now))) c.in_default-2.is)));
