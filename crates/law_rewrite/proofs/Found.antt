@@ -1,13 +1,11 @@
 -- Where the search ends: with a step, or with a term that is normal.
-use Rattle.std.proofs.Common.{◌≡◌, ℕ, suc, List, [], ◌∷◌, ◌++◌, length, map, Option, Some, None, MatchOption, sym, refl, ap, ◌∙◌, subst, arith}
-use denote.Bor.{Bor}
+use Rattle.std.proofs.Common.{◌≡◌, ℕ, List, [], ◌∷◌, ◌++◌, length, Option, Some, None, MatchOption, sym, refl, ap, ◌∙◌, subst, arith}
 use Rattle.law_sig.specs.Lists.{Each}
-use Rattle.law_sig.specs.Signature.{result_of}
 use Rattle.law_sig.specs.declared.tree.Tree.{Tree}
 use Rattle.law_sig.specs.declared.parts.SigParts.{SigParts}
-use Rattle.law_rewriting.specs.Steps.{IsOrderedStep, IsNormal}
+use Rattle.law_rewriting.specs.Steps.{IsOrderedStep}
 use Rattle.law_rewriting.specs.Roots.{at_root, HasNoRootStep}
-use Rattle.law_bank.specs.declared.node.Node.{Node, out-Node}
+use Rattle.law_bank.specs.declared.node.Node.{Node}
 use Rattle.law_bank.specs.Terms.{tree_of, id_of}
 use Rattle.law_bank.specs.Bank.{Terms, IsOf, Grows, sorts_by}
 use Rattle.law_bank.specs.Bindings.{binds_of}

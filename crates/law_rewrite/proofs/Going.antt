@@ -1,30 +1,25 @@
 -- While a step is searched: the way from the root to the term that is looked at next.
-use Rattle.std.proofs.Common.{◌≡◌, ℕ, zero, suc, ◌+◌, ◌*◌, ◌-◌, ◌<◌, ◌≤◌, ◌⊎◌, inl, inr, List, [], ◌∷◌, ◌++◌, length, take, drop, map, Option, Some, None, slice_get, Bool, true, false, ◌==◌, if◌then◌else◌, append_assoc, sym, refl, ap, ◌∙◌, subst, arith}
+use Rattle.std.proofs.Common.{◌≡◌, ℕ, zero, suc, ◌+◌, ◌*◌, ◌<◌, ◌≤◌, ◌⊎◌, inl, inr, List, [], ◌∷◌, ◌++◌, length, take, drop, map, Option, Some, None, slice_get, Bool, true, false, ◌==◌, if◌then◌else◌, append_assoc, sym, refl, ap, ◌∙◌, subst, arith}
 use Rattle.std.specs.List.{list_any}
 use denote.Bor.{Bor}
 use Rattle.law_sig.specs.Lists.{In, Each, total}
 use Rattle.law_sig.specs.Lists.In.{here, there}
 use Rattle.law_sig.specs.Trees.{node_count}
-use Rattle.law_sig.specs.declared.tree.Tree.{Tree}
-use Rattle.law_sig.specs.declared.parts.SigParts.{SigParts}
-use Rattle.law_rewriting.specs.Steps.{IsNormal}
-use Rattle.law_rewriting.specs.Roots.{HasNoRootStep}
 use Rattle.law_laws.proofs.TreeFacts.{nodes-Var, nodes-App}
 use Rattle.law_laws.proofs.ListFacts.{in_left, in_right}
 use Rattle.law_bank.specs.declared.node.Head.{Head}
 use Rattle.law_bank.specs.declared.node.Head.TheVariants as head
 use Rattle.law_bank.specs.declared.node.Node.{Node, out-Node}
 use Rattle.law_bank.specs.Terms.{tree_of, trees_of, id_of, Fits}
-use Rattle.law_bank.specs.Bank.{Terms, IsOf, AllOf, Grows}
+use Rattle.law_bank.specs.Bank.{Terms, IsOf, Grows}
 use Rattle.law_bank.proofs.BankFacts as bank_facts
 use Rattle.law_bank.proofs.BankFacts.{stays, below, var_tree, sym_tree, get_left}
-use Rattle.law_index.specs.Index.{Entry, AllRules, rules_in}
+use Rattle.law_index.specs.Index.{Entry, AllRules}
 use Rattle.law_rewrite.specs.declared.search.Open.{Open}
-use Rattle.law_rewrite.specs.Rewriting.{IsSignatureOf}
 use Rattle.law_rewrite.specs.Finding.{IsKnown, AreNormal, IsAmong, IsUnknownAt, IsUnknown, GoesDown}
 use Rattle.law_rewrite.proofs.Knowing.{any_is}
 use Rattle.law_rewrite.proofs.Signatures.{arg_light, signature_was}
-use Rattle.law_rewrite.proofs.Ways.{args_of, IsTurn, WayTo, way_on, way_back, way_more, more_known, all_before, item_of}
+use Rattle.law_rewrite.proofs.Ways.{args_of, WayTo, way_on, way_back, way_more, more_known, all_before, item_of}
 
 -- all terms on the way are of the bank, and light
 pub record IsHeld (bank : Terms) (o : Open) : Type 0 where

@@ -1,5 +1,5 @@
 -- What is known among the arguments of a term.
-use Rattle.std.proofs.Common.{◌≡◌, ℕ, zero, suc, ◌+◌, ◌<◌, ◌≤◌, ◌⊎◌, inl, inr, Bool, true, false, true≢false, ◌==◌, eqb-true, eq-eqb, ◌||◌, if◌then◌else◌, List, [], ◌∷◌, length, Some, slice_get, sym, refl, ap, ◌∙◌, subst, arith}
+use Rattle.std.proofs.Common.{◌≡◌, ℕ, zero, suc, ◌+◌, ◌<◌, ◌≤◌, ◌⊎◌, inl, inr, Bool, true, false, true≢false, ◌==◌, eqb-true, eq-eqb, ◌||◌, List, [], ◌∷◌, length, Some, slice_get, sym, refl, ap, ◌∙◌, subst, arith}
 use Rattle.std.specs.List.{list_any}
 use denote.Bor.{Bor}
 use Rattle.law_sig.specs.Lists.{In}

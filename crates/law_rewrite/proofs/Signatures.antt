@@ -1,5 +1,5 @@
 -- Each bank has a signature with its sorts and weights; so what is said by all of them is said by one.
-use Rattle.std.proofs.Common.{◌≡◌, ℕ, ◌≤◌, List, [], ◌∷◌, map, sym, refl, ap, ◌∙◌, arith}
+use Rattle.std.proofs.Common.{◌≡◌, ◌≤◌, List, [], ◌∷◌, map, sym, refl, ap, ◌∙◌, arith}
 use denote.Bor.{Bor}
 use Rattle.law_sig.specs.Lists.{In}
 use Rattle.law_sig.specs.Signature.{result_of}
@@ -9,7 +9,6 @@ use Rattle.law_sig.specs.declared.parts.Sym.TheVariants.{Con}
 use Rattle.law_sig.specs.declared.parts.PoolRule.TheVariants.{Given}
 use Rattle.law_sig.specs.declared.parts.SigParts.{SigParts}
 use Rattle.law_bank.specs.declared.node.Node.{Node, out-Node}
-use Rattle.law_bank.specs.Terms.{tree_of}
 use Rattle.law_bank.specs.Bank.{Terms, IsOf, Grows}
 use Rattle.law_bank.proofs.BankFacts.{weight_is}
 use Rattle.law_bank.proofs.OrderFacts.{arg_weight}

@@ -1,6 +1,6 @@
 -- The step that was found, by the equation of the log.
 use Rattle.std.proofs.Common.{◌≡◌, ℕ, ◌≤◌, ◌==◌, eqb-true, Bool, true, false, if◌then◌else◌, List, [], ◌∷◌, Option, Some, None, sym, refl, ap, ◌∙◌, subst, arith}
-use Rattle.law_sig.specs.Lists.{Each, numbered}
+use Rattle.law_sig.specs.Lists.{numbered}
 use Rattle.std.specs.Option.{option_copied}
 use denote.Bor.{Bor}
 use Rattle.law_sig.specs.Trees.{substituted}
@@ -30,7 +30,7 @@ use Rattle.law_match.specs.Directed.{directed, IsEqnOf}
 use Rattle.law_index.specs.Index.{Entry, rules_in}
 use Rattle.law_rewrite.specs.declared.search.Found.{Found}
 use Rattle.law_rewrite.specs.Finding.{IsFoundAt, step_at}
-use Rattle.law_rewrite.specs.Rewriting.{IsEntryOf, IsIndexOf}
+use Rattle.law_rewrite.specs.Rewriting.{IsIndexOf}
 use Rattle.law_rewrite.proofs.Signatures.{parts_of}
 
 -- the log's equation with a rule's number

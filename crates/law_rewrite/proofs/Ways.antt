@@ -1,9 +1,8 @@
 -- The way down to where a step is taken, past terms that are known to be normal.
-use Rattle.std.proofs.Common.{◌≡◌, ℕ, zero, suc, ◌+◌, ◌*◌, ◌-◌, ◌<◌, ◌≤◌, ◌⊎◌, inl, inr, List, [], ◌∷◌, ◌++◌, length, take, drop, map, Option, Some, None, slice_get, slice_index_or, append_assoc, sym, refl, ap, ◌∙◌, subst, arith}
+use Rattle.std.proofs.Common.{◌≡◌, ℕ, zero, suc, ◌-◌, ◌<◌, ◌≤◌, List, [], ◌∷◌, ◌++◌, length, take, map, Some, slice_get, slice_index_or, append_assoc, sym, refl, ap, ◌∙◌, subst, arith}
 use denote.Bor.{Bor}
-use Rattle.law_sig.specs.Lists.{In, Each, total}
+use Rattle.law_sig.specs.Lists.{In, Each}
 use Rattle.law_sig.specs.Lists.In.{here, there}
-use Rattle.law_sig.specs.Trees.{node_count}
 use Rattle.law_sig.specs.declared.tree.SortId.{SortId}
 use Rattle.law_sig.specs.declared.tree.SymId.{SymId}
 use Rattle.law_sig.specs.declared.tree.Tree.{Tree}
@@ -11,7 +10,7 @@ use Rattle.law_sig.specs.declared.tree.Tree.TheVariants.{Var, App}
 use Rattle.law_sig.specs.declared.parts.SigParts.{SigParts}
 use Rattle.law_sig.specs.declared.chain.Step.{Step}
 use Rattle.law_laws.proofs.BodyFacts.{some_is}
-use Rattle.law_rewriting.specs.Steps.{Rules, IsOrderedStep, IsNormal}
+use Rattle.law_rewriting.specs.Steps.{IsOrderedStep, IsNormal}
 use Rattle.law_rewriting.specs.Roots.{IsRootStep, HasNoRootStep, in_argument}
 use Rattle.law_rewriting.proofs.Composing.{ordered_in_argument, ordered_at_root, normal_at_root, at_root_alone, var_at_root}
 use Rattle.law_bank.specs.declared.node.Head.{Head}

@@ -1,4 +1,3 @@
-use Rattle.std.proofs.Common.{sym, ap, ◌∙◌, subst}
 use denote.Bor.{Bor}
 use Rattle.law_rewriting.specs.Steps.{IsNormal}
 use Rattle.law_bank.specs.declared.node.Node.{Node}
